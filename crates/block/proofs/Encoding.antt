@@ -1,0 +1,239 @@
+-- Setting the check rows by the words of the sums makes the valid block for the data. Assumes nothing.
+use Prim.Native.Nat.{ℕ, zero, suc, _-_, _^_, _≤_, _<_}
+use mathlib.Core.Bool.{Bool, true, false, not, cond, _&&_}
+use mathlib.Core.Path.{_≡_, refl, sym, ap, ap₂, _∙_}
+use mathlib.Core.List.{List, [], _∷_}
+use mathlib.Core.Logic.{_⊎_, inl, inr, ⊎-elim, by-cases}
+use native.Mathlib.Decide.{ℕ-discrete}
+use native.Mathlib.Nat.{le-refl}
+use native.Mathlib.Omega.{arith}
+use lib.Bits.{bitXor, xor-lt}
+use lib.Dec.{eqb, ltb, lit≤}
+use lib.ListN.{length, getD, set, length-set}
+use lib.Pow.{pow-pos, pow-mono, pow-lt}
+use lib.Seq.{getD-set-same, getD-set-other}
+use borrow.Author.Tests.{eq-eqb, ne-eqb, lt-ltb, le-ltb}
+use Rattle.lane.specs.Bit.{bit, _⊕_}
+use Rattle.lane.specs.Lane.{Lane, sum, odd}
+use Rattle.lane.specs.Rows.{power?, DataRow, covered}
+use Rattle.lane.specs.Encoded.{named, summed, encoded}
+use Rattle.lane.proofs.Bits.{bit-zero, bit-xor, bit-high, bit-ext, ⊕-zero}
+use Rattle.lane.proofs.Rows.{either, split-below, power-found, power-none, data-row}
+use Rattle.lane.proofs.Exactly.{sum-lt, named-off, named-on, xorDigits, summed-odd, encoded-data}
+use Rattle.block.specs.declared.Shape.{Shape}
+use Rattle.block.specs.declared.Shape.the-variants.{One, Two}
+use Rattle.block.specs.Shape.{before, rows, digits}
+use Rattle.block.specs.Words.{row, lane, word, listOf}
+use Rattle.block.specs.Stores.{stores, length-stores, stores-hit, stores-miss}
+use Rattle.block.specs.Block.{dataBlock, validBlock}
+use Rattle.block.specs.Inner.{xorOver, sumsOf, xorAll, withChecks}
+use Rattle.block.proofs.Words.{number-bits}
+use Rattle.block.proofs.Flips.{getD-listOf, list-is}
+use Rattle.block.proofs.Lanes.{bit-covered, bit-all}
+use Rattle.block.proofs.Data.{before-digits, before-lt, length-data, data-miss, data-lt}
+
+-- the last row of a shape is no power of two among the check rows
+last-no-power : (shape : Shape) (l : ℕ) → l < digits shape → rows shape ≡ 2 ^ l → ⊥
+unfolding power?
+last-no-power One = power-none 4 16 refl
+last-no-power Two = power-none 7 72 refl
+
+digits-le : (shape : Shape) → digits shape ≤ 7
+digits-le One = lit≤ tt
+digits-le Two = lit≤ tt
+
+-- the check rows of a shape stand before its last row, and the next power of two does not
+power-inside : (shape : Shape) (l : ℕ) → l < digits shape → 2 ^ l ≤ before shape
+power-inside One l h = let g : 2 ^ l ≤ 2 ^ 3 = pow-mono {i = l} {j = 3} (omega arith) in omega arith
+power-inside Two l h = let g : 2 ^ l ≤ 2 ^ 6 = pow-mono {i = l} {j = 6} (omega arith) in omega arith
+
+power-outside : (shape : Shape) (l : ℕ) → digits shape ≤ l → rows shape ≤ 2 ^ l
+power-outside One l h = let g : 2 ^ 4 ≤ 2 ^ l = pow-mono h in omega arith
+power-outside Two l h = let g : 2 ^ 7 ≤ 2 ^ l = pow-mono h in omega arith
+
+-- two powers of two are equal only where their exponents are
+power-once : (k l : ℕ) → 2 ^ k - 1 ≡ 2 ^ l - 1 → k ≡ l
+power-once k l e =
+    let p = pow-pos k in
+    let q = pow-pos l in
+    ⊎-elim (λ h. let g : 2 ^ k < 2 ^ l = pow-lt h in absurd (omega arith))
+    (λ h. ⊎-elim (λ g. let f : 2 ^ l < 2 ^ k = pow-lt g in absurd (omega arith)) (λ g. omega arith) (split-below l k)) (split-below k l)
+
+-- a sum of a shape has no digit past the shape's
+xor-seven : (shape : Shape) (s : ℕ) → s < 2 ^ digits shape → xorDigits 7 s ≡ xorDigits (digits shape) s
+unfolding xorDigits
+xor-seven One s h =
+    ap₂ _⊕_ (ap₂ _⊕_ (ap (λ (b : Bool). xorDigits 4 s ⊕ b) (bit-high 4 4 s h (le-refl 4)) ∙ ⊕-zero (xorDigits 4 s)) (bit-high 4 5 s h (lit≤ tt)) ∙ ⊕-zero (xorDigits 4 s))
+    (bit-high 4 6 s h (lit≤ tt))
+    ∙ ⊕-zero (xorDigits 4 s)
+xor-seven Two s h = refl
+
+xor-over-lt : (list block : List ℕ) → ((j : ℕ) → getD block j 0 < 2 ^ 32) → xorOver list block < 2 ^ 32
+unfolding xorOver
+xor-over-lt [] block h = pow-pos 32
+xor-over-lt (p ∷ list) block h = xor-lt 32 (row p block) (xorOver list block) (row-lt p) (xor-over-lt list block h)
+  where
+    row-lt : (p : ℕ) → row p block < 2 ^ 32
+    row-lt zero = pow-pos 32
+    row-lt (suc j) = h j
+
+module _ (shape : Shape) (list : List ℕ) (words-fit : (k : ℕ) → getD list k 0 < 2 ^ 32) where
+  abbrev m : ℕ
+  m = before shape
+
+  abbrev dataRows : List ℕ
+  dataRows = dataBlock shape list
+
+  -- digit k of every lane's sum, as a word
+  abbrev digitWord : ℕ → ℕ
+  digitWord k = getD (sumsOf shape dataRows .digits) k 0
+
+  abbrev lastWord : ℕ
+  lastWord = bitXor (sumsOf shape dataRows .parity) (xorAll 7 (sumsOf shape dataRows .digits))
+
+  abbrev sumOf : ℕ → ℕ
+  sumOf i = sum m (lane i dataRows)
+
+  sum-small : (i : ℕ) → sumOf i < 2 ^ digits shape
+  sum-small i = sum-lt (digits shape) m (lane i dataRows) (before-digits shape)
+
+  fits : (j : ℕ) → getD dataRows j 0 < 2 ^ 32
+  fits = data-lt shape list words-fit
+
+  digit-bit : (i k : ℕ) → k < 7 → bit i (digitWord k) ≡ bit k (sumOf i)
+  digit-bit i k h = ap (bit i) (getD-listOf 7 (λ k. xorOver (covered k m) dataRows) k h) ∙ bit-covered i k m dataRows
+
+  digit-lt : (k : ℕ) → k < 7 → digitWord k < 2 ^ 32
+  digit-lt k h = rw (getD-listOf 7 (λ k. xorOver (covered k m) dataRows) k h) (xor-over-lt (covered k m) dataRows fits)
+
+  digit-none : (k : ℕ) → digits shape ≤ k → k < 7 → digitWord k ≡ 0
+  digit-none k h l =
+      bit-ext (digitWord k) 0 (λ i. digit-bit i k l ∙ bit-high (digits shape) k (sumOf i) (sum-small i) h ∙ sym (bit-zero i))
+
+  all-bit : (i k : ℕ) → k ≤ 7 → bit i (xorAll k (sumsOf shape dataRows .digits)) ≡ xorDigits k (sumOf i)
+  unfolding xorAll xorDigits
+  all-bit i zero h = bit-zero i
+  all-bit i (suc k) h =
+      bit-xor i (xorAll k (sumsOf shape dataRows .digits)) (digitWord k) ∙ ap₂ _⊕_ (all-bit i k (omega arith)) (digit-bit i k (omega arith))
+
+  all-lt : (k : ℕ) → k ≤ 7 → xorAll k (sumsOf shape dataRows .digits) < 2 ^ 32
+  unfolding xorAll
+  all-lt zero h = pow-pos 32
+  all-lt (suc k) h = xor-lt 32 (xorAll k (sumsOf shape dataRows .digits)) (digitWord k) (all-lt k (omega arith)) (digit-lt k (omega arith))
+
+  last-bit : (i : ℕ) → bit i lastWord ≡ odd (rows shape) (summed (digits shape) m (lane i dataRows))
+  last-bit i =
+      bit-xor i (sumsOf shape dataRows .parity) (xorAll 7 (sumsOf shape dataRows .digits))
+      ∙ ap₂ _⊕_ (bit-all i (rows shape) dataRows) (all-bit i 7 (le-refl 7) ∙ xor-seven shape (sumOf i) (sum-small i))
+      ∙ sym (summed-odd (digits shape) m (lane i dataRows) (before-digits shape))
+
+  -- ---- each kind of row holds what the encoded lanes say
+
+  abbrev coded : ℕ → ℕ → Bool
+  coded j i = encoded (digits shape) m (lane i dataRows) (suc j)
+
+  not-last : (j : ℕ) → (j ≡ m → ⊥) → (b : Bool) → b && eqb (suc j) (rows shape) ≡ false
+  not-last j ne b = ap (λ (x : Bool). b && x) (ne-eqb (suc j) (rows shape) (λ e. ne (omega arith))) ∙ and-false b
+    where
+      and-false : (a : Bool) → a && false ≡ false
+      and-false true = refl
+      and-false false = refl
+
+  zero-lane : (j : ℕ) → (DataRow m (suc j) → ⊥) → (i : ℕ) → lane i dataRows (suc j) ≡ false
+  zero-lane j ne i = ap (bit i) (data-miss shape list j ne) ∙ bit-zero i
+
+  pub last-row : lastWord ≡ word (coded m)
+  last-row =
+      number-bits 32 lastWord (coded m) (xor-lt 32 _ _ (xor-over-lt _ dataRows fits) (all-lt 7 (le-refl 7)))
+      (λ i h.
+      last-bit i
+      ∙ sym
+      (ap₂ _⊕_
+      (ap₂ _⊕_ (zero-lane m (λ d. let l = d .last in omega arith) i) (named-off (digits shape) (sumOf i) (rows shape) (last-no-power shape)))
+      (ap (λ (x : Bool). odd (rows shape) (summed (digits shape) m (lane i dataRows)) && x) (eq-eqb (rows shape) (rows shape) refl) ∙ and-true _)))
+    where
+      and-true : (a : Bool) → a && true ≡ a
+      and-true true = refl
+      and-true false = refl
+
+  pub check-row : (l j : ℕ) → l < digits shape → suc j ≡ 2 ^ l → (j ≡ m → ⊥) → digitWord l ≡ word (coded j)
+  check-row l j h e ne =
+      let k = digits-le shape in
+      number-bits 32 (digitWord l) (coded j) (digit-lt l (omega arith))
+      (λ i g.
+      digit-bit i l (omega arith)
+      ∙ sym
+      (ap₂ _⊕_
+      (ap₂ _⊕_ (zero-lane j (λ d. d .no-power l e) i) (ap (named (digits shape) (sumOf i)) e ∙ named-on (digits shape) (sumOf i) l h))
+      (not-last j ne (odd (rows shape) (summed (digits shape) m (lane i dataRows))))
+      ∙ ⊕-zero (bit l (sumOf i))))
+
+  pub data-kept : (j : ℕ) → DataRow m (suc j) → getD dataRows j 0 ≡ word (coded j)
+  data-kept j d =
+      number-bits 32 (getD dataRows j 0) (coded j) (fits j)
+      (λ i g. sym (encoded-data (digits shape) m (lane i dataRows) (before-digits shape) (suc j) d))
+
+  -- ---- the whole block
+
+  abbrev withDigits : List ℕ
+  withDigits = withChecks (sumsOf shape dataRows .digits) dataRows
+
+  length-checks : length withDigits ≡ 72
+  unfolding withChecks
+  length-checks = length-stores dataRows _ _ 7 ∙ length-data shape list
+
+  check-there : (l j : ℕ) → l < 7 → suc j ≡ 2 ^ l → getD withDigits j 0 ≡ digitWord l
+  unfolding withChecks
+  check-there l j h e =
+      let q : j ≡ 2 ^ l - 1 = omega arith in
+      let g : 2 ^ l ≤ 2 ^ 6 = pow-mono {i = l} {j = 6} (omega arith) in
+      let n = length-data shape list in
+      rw q (stores-hit dataRows (λ k. 2 ^ k - 1) digitWord l 7 (λ k b r. power-once l k r) h (omega arith))
+
+  other-there : (j : ℕ) → ((l : ℕ) → l < 7 → suc j ≡ 2 ^ l → ⊥) → getD withDigits j 0 ≡ getD dataRows j 0
+  unfolding withChecks
+  other-there j ne = stores-miss dataRows (λ k. 2 ^ k - 1) digitWord j 7 (λ k h e. ne k h (let p = pow-pos k in omega arith))
+
+  -- what the definition says of place j
+  abbrev meant : ℕ → ℕ
+  meant j = cond (ltb j (rows shape)) (word (coded j)) 0
+
+  meant-in : (j : ℕ) → j < rows shape → meant j ≡ word (coded j)
+  meant-in j h = ap (λ (b : Bool). cond b (word (coded j)) 0) (lt-ltb j (rows shape) h)
+
+  meant-out : (j : ℕ) → rows shape ≤ j → meant j ≡ 0
+  meant-out j h = ap (λ (b : Bool). cond b (word (coded j)) 0) (le-ltb j (rows shape) h)
+
+  at-check : (l j : ℕ) → l < 7 → suc j ≡ 2 ^ l → (j ≡ m → ⊥) → digitWord l ≡ meant j
+  at-check l j h e ne =
+      ⊎-elim
+      (λ b. let g = power-inside shape l b in check-row l j b e ne ∙ sym (meant-in j (omega arith)))
+      (λ b. let g = power-outside shape l b in digit-none l b h ∙ sym (meant-out j (omega arith)))
+      (split-below l (digits shape))
+
+  at-other : (j : ℕ) → ((l : ℕ) → l < 7 → suc j ≡ 2 ^ l → ⊥) → (j ≡ m → ⊥) → getD dataRows j 0 ≡ meant j
+  at-other j ne nm =
+      ⊎-elim
+      (λ b. data-kept j (record { first = omega arith; last = omega arith; no-power = λ k e. no-power-there j ne b k e }) ∙ sym (meant-in j b))
+      (λ b. data-miss shape list j (λ d. let l = d .last in omega arith) ∙ sym (meant-out j b))
+      (split-below j (rows shape))
+    where
+      no-power-there : (j : ℕ) → ((l : ℕ) → l < 7 → suc j ≡ 2 ^ l → ⊥) → j < rows shape → (k : ℕ) → suc j ≡ 2 ^ k → ⊥
+      no-power-there j ne b k e =
+          ⊎-elim (λ h. ne k h e) (λ h. let g : 2 ^ 7 ≤ 2 ^ k = pow-mono h in let t = before-lt shape in omega arith) (split-below k 7)
+
+  at-place : (j : ℕ) → (j ≡ m → ⊥) → getD withDigits j 0 ≡ meant j
+  at-place j ne =
+      ⊎-elim
+      (λ t. let f = power-found 7 (suc j) t in check-there (f .0) j (f .1) (f .2) ∙ at-check (f .0) j (f .1) (f .2) ne)
+      (λ t. let n = power-none 7 (suc j) t in other-there j n ∙ at-other j n ne)
+      (either (power? 7 (suc j)))
+
+  pub built : set withDigits m lastWord ≡ validBlock shape list
+  unfolding validBlock
+  built =
+      list-is 72 (set withDigits m lastWord) meant (length-set withDigits m lastWord ∙ length-checks)
+      (λ j h.
+      by-cases (ℕ-discrete j m)
+      (λ e. rw e (getD-set-same withDigits m lastWord 0 (let b = before-lt shape in let n = length-checks in omega arith) ∙ last-row ∙ sym (meant-in m (omega arith))))
+      (λ ne. getD-set-other withDigits m j lastWord 0 ne ∙ at-place j ne))

@@ -1,0 +1,167 @@
+-- The words that the code computes say of each lane what the definitions say. Assumes nothing.
+use Prim.Native.Nat.{ℕ, zero, suc, _+_, _-_, _*_, _/_, _%_, _^_, _≤_, _<_}
+use mathlib.Core.Bool.{Bool, true, false, not, cond, _&&_, _||_}
+use mathlib.Core.Path.{_≡_, refl, sym, ap, ap₂, _∙_}
+use mathlib.Core.List.{List, [], _∷_, _++_, append-nil}
+use native.Mathlib.Nat.{mod-lt}
+use native.Mathlib.Omega.{arith}
+use lib.Bits.{bitXor, bitAnd, bitOr, xor-zero-r}
+use lib.Count.{ones, onesIn, ones-step}
+use lib.Dec.{eqb, ltb, leb, eqb·suc-zero}
+use lib.ListN.{length, getD}
+use lib.Pow.{pow-pos, mod-pow-add}
+use native.Mathlib.Nat.{pow-suc}
+use borrow.Author.Tests.{eq-eqb, ne-eqb, eqb-true, eqb-false, lt-ltb, le-ltb, ltb-true, ltb-false}
+use Rattle.lane.specs.Bit.{set?, bit, _⊕_, pick}
+use Rattle.lane.specs.Lane.{sum, count, odd}
+use Rattle.lane.specs.Rows.{rowsWhere, covered, allRows}
+use Rattle.lane.specs.Decision.{Decision, flipped, lost, decision, lost?}
+use Rattle.lane.proofs.Bits.{bit-zero, bit-xor, bit-and, bit-or, bit-shift}
+use Rattle.lane.proofs.Linear.{odd-suc}
+use Rattle.lane.proofs.Exactly.{pick-bit, sum-lt}
+use Rattle.block.specs.Words.{row, lane, number, listOf, total}
+use Rattle.block.specs.Inner.{xorOver, anyOf, aboveOf, sumAt}
+use Rattle.block.proofs.Words.{xor-snoc, number-lt, number-bits}
+use Rattle.block.proofs.Flips.{getD-listOf}
+
+-- ---- the digits of the sums, and the parities
+
+xor-where : (test : ℕ → Bool) (n : ℕ) (block : List ℕ)
+    → xorOver (rowsWhere test (suc n)) block ≡ bitXor (xorOver (rowsWhere test n) block) (pick (test (suc n)) (row (suc n) block))
+unfolding rowsWhere
+xor-where test n block = go (test (suc n))
+  where
+    go : (b : Bool) → xorOver (rowsWhere test n ++ cond b (suc n ∷ []) []) block ≡ bitXor (xorOver (rowsWhere test n) block) (pick b (row (suc n) block))
+    go true = xor-snoc (rowsWhere test n) (suc n) block
+    go false = ap (λ (l : List ℕ). xorOver l block) (append-nil (rowsWhere test n)) ∙ sym (xor-zero-r (xorOver (rowsWhere test n) block))
+
+and-comm : (a b : Bool) → a && b ≡ b && a
+and-comm true true = refl
+and-comm true false = refl
+and-comm false true = refl
+and-comm false false = refl
+
+-- bit i of the word for digit k is digit k of lane i's sum
+pub bit-covered : (i k m : ℕ) (block : List ℕ) → bit i (xorOver (covered k m) block) ≡ bit k (sum m (lane i block))
+unfolding sum
+bit-covered i k zero block = unfold rowsWhere in (unfold xorOver in (bit-zero i ∙ sym (bit-zero k)))
+bit-covered i k (suc m) block =
+    ap (bit i) (xor-where (bit k) m block) ∙ bit-xor i (xorOver (covered k m) block) (pick (bit k (suc m)) (row (suc m) block))
+    ∙ ap₂ _⊕_ (bit-covered i k m block)
+    (pick-bit i (bit k (suc m)) (row (suc m) block) ∙ and-comm (bit k (suc m)) (lane i block (suc m)) ∙ sym (pick-bit k (lane i block (suc m)) (suc m)))
+    ∙ sym (bit-xor k (sum m (lane i block)) (pick (lane i block (suc m)) (suc m)))
+
+-- bit i of the word over all rows is lane i's parity
+pub bit-all : (i n : ℕ) (block : List ℕ) → bit i (xorOver (rowsWhere (λ p. true) n) block) ≡ odd n (lane i block)
+bit-all i zero block = unfold rowsWhere in (unfold xorOver in (unfold count in (bit-zero i ∙ sym (bit-zero 0))))
+bit-all i (suc n) block =
+    ap (bit i) (xor-where (λ p. true) n block) ∙ bit-xor i (xorOver (rowsWhere (λ p. true) n) block) (row (suc n) block)
+    ∙ ap (λ (b : Bool). b ⊕ lane i block (suc n)) (bit-all i n block) ∙ sym (odd-suc n (lane i block))
+
+-- so the digits' words hold lane i's sum
+pub sum-at : (i m : ℕ) (block : List ℕ) → m < 2 ^ 7 → sumAt (listOf 7 (λ k. xorOver (covered k m) block)) i ≡ sum m (lane i block)
+sum-at i m block h =
+    sym
+    (number-bits 7 (sum m (lane i block)) _ (sum-lt 7 m (lane i block) h)
+    (λ k l. sym (ap (bit i) (getD-listOf 7 (λ k. xorOver (covered k m) block) k l) ∙ bit-covered i k m block)))
+
+-- ---- the lanes with a sum, and those with a sum above a number
+
+module _ (i : ℕ) (digits : List ℕ) where
+  abbrev low : ℕ → ℕ
+  low k = number k (λ j. bit i (getD digits j 0))
+
+  or-zero : (n k : ℕ) (b : Bool) → not (eqb n 0) || b ≡ not (eqb (n + pick b (2 ^ k)) 0)
+  or-zero zero k true = sym (ap not (ne-eqb (0 + 2 ^ k) 0 (λ e. let p = pow-pos k in omega arith)))
+  or-zero zero k false = refl
+  or-zero (suc n) k b = rw (eqb·suc-zero n, ne-eqb (suc n + pick b (2 ^ k)) 0 (λ e. omega arith))
+
+  pub bit-any : (k : ℕ) → bit i (anyOf k digits) ≡ not (eqb (low k) 0)
+  unfolding anyOf number
+  bit-any zero = bit-zero i
+  bit-any (suc k) =
+      bit-or i (anyOf k digits) (getD digits k 0) ∙ ap (λ (b : Bool). b || bit i (getD digits k 0)) (bit-any k)
+      ∙ or-zero (low k) k (bit i (getD digits k 0))
+
+  -- comparing numbers of one digit more
+  compare-more : (w x y : ℕ) (a b : Bool) → x < w → y < w → cond a (ltb x y && b) (ltb x y || b) ≡ ltb (x + pick a w) (y + pick b w)
+  compare-more w x y a b hx hy = go a b (ltb x y) refl
+    where
+      go : (a b t : Bool) → ltb x y ≡ t → cond a (t && b) (t || b) ≡ ltb (x + pick a w) (y + pick b w)
+      go true true true e = let h = ltb-true x y e in sym (lt-ltb (x + w) (y + w) (omega arith))
+      go true true false e = let h = ltb-false x y e in sym (le-ltb (x + w) (y + w) (omega arith))
+      go true false true e = sym (le-ltb (x + w) (y + 0) (omega arith))
+      go true false false e = sym (le-ltb (x + w) (y + 0) (omega arith))
+      go false true true e = sym (lt-ltb (x + 0) (y + w) (omega arith))
+      go false true false e = sym (lt-ltb (x + 0) (y + w) (omega arith))
+      go false false true e = let h = ltb-true x y e in sym (lt-ltb (x + 0) (y + 0) (omega arith))
+      go false false false e = let h = ltb-false x y e in sym (le-ltb (x + 0) (y + 0) (omega arith))
+
+  digit-pick : (d w : ℕ) → d < 2 → d * w ≡ pick (set? d) w
+  digit-pick zero w h = omega (arith, native.Mathlib.Nat.zero-mul w)
+  digit-pick (suc zero) w h = omega (arith, native.Mathlib.Nat.one-mul w)
+  digit-pick (suc (suc d)) w h = absurd (omega arith)
+
+  mod-more : (n k : ℕ) → n % 2 ^ suc k ≡ n % 2 ^ k + pick (bit k n) (2 ^ k)
+  mod-more n k =
+      let e : suc k ≡ 1 + k = omega arith in
+      ap (λ (j : ℕ). n % 2 ^ j) e ∙ mod-pow-add n 1 k
+      ∙ omega (arith, digit-pick (n / 2 ^ k % 2) (2 ^ k) (omega arith), ap (λ (b : Bool). pick b (2 ^ k)) (bit-shift k n))
+
+  cond-bit : (b : Bool) (x y : ℕ) → bit i (cond b x y) ≡ cond b (bit i x) (bit i y)
+  cond-bit true x y = refl
+  cond-bit false x y = refl
+
+  pub bit-above : (top k : ℕ) → bit i (aboveOf top k digits) ≡ ltb (top % 2 ^ k) (low k)
+  unfolding aboveOf number
+  bit-above top zero = bit-zero i ∙ sym (le-ltb (top % 1) 0 (omega arith))
+  bit-above top (suc k) =
+      cond-bit (bit k top) (bitAnd (aboveOf top k digits) (getD digits k 0)) (bitOr (aboveOf top k digits) (getD digits k 0))
+      ∙ ap₂ (λ (x y : Bool). cond (bit k top) x y)
+      (bit-and i (aboveOf top k digits) (getD digits k 0) ∙ ap (λ (b : Bool). b && bit i (getD digits k 0)) (bit-above top k))
+      (bit-or i (aboveOf top k digits) (getD digits k 0) ∙ ap (λ (b : Bool). b || bit i (getD digits k 0)) (bit-above top k))
+      ∙ compare-more (2 ^ k) (top % 2 ^ k) (low k) (bit k top) (bit i (getD digits k 0)) (mod-lt top (pow-pos k)) (number-lt k _)
+      ∙ ap (λ (x : ℕ). ltb x (low k + pick (bit i (getD digits k 0)) (2 ^ k))) (sym (mod-more top k))
+
+-- ---- the lanes that are lost: even with a sum, or odd with a sum above the rows before the last
+
+pub lost-test : (m : ℕ) (o : Bool) (s : ℕ) → (not (eqb s 0) && not o) || (o && ltb m s) ≡ lost? (decision m o s)
+unfolding decision
+lost-test m false zero = refl
+lost-test m false (suc s) = rw (eqb·suc-zero s)
+lost-test m true zero = le-ltb m 0 (omega arith)
+lost-test m true (suc s) = rw (eqb·suc-zero s) (go (leb (suc s) m) refl)
+  where
+    go : (t : Bool) → leb (suc s) m ≡ t → ltb m (suc s) ≡ lost? (cond t (flipped (suc s)) lost)
+    go true e = let h = borrow.Author.Tests.leb-true (suc s) m e in le-ltb m (suc s) h
+    go false e = let h = borrow.Author.Tests.leb-false (suc s) m e in lt-ltb m (suc s) h
+
+-- ---- the count of a word's ones is that of its bits
+
+total-first : (n : ℕ) (f : ℕ → ℕ) → total (suc n) f ≡ f 0 + total n (λ i. f (suc i))
+unfolding total
+total-first zero f = omega arith
+total-first (suc n) f = let h = total-first n f in omega arith
+
+pub total-same : (n : ℕ) (f g : ℕ → ℕ) → ((i : ℕ) → i < n → f i ≡ g i) → total n f ≡ total n g
+unfolding total
+total-same zero f g h = refl
+total-same (suc n) f g h = ap₂ (λ (x y : ℕ). x + y) (total-same n f g (λ i l. h i (omega arith))) (h n (omega arith))
+
+pub total-zero : (n : ℕ) → total n (λ i. 0) ≡ 0
+unfolding total
+total-zero zero = refl
+total-zero (suc n) = omega (arith, total-zero n)
+
+ones-digit : (d : ℕ) → d < 2 → d ≡ pick (set? d) 1
+ones-digit zero h = refl
+ones-digit (suc zero) h = refl
+ones-digit (suc (suc d)) h = absurd (omega arith)
+
+pub ones-total : (k w : ℕ) → w < 2 ^ k → ones w ≡ total k (λ i. pick (bit i w) 1)
+unfolding ones onesIn total bit
+ones-total zero w h = let e : w ≡ 0 = omega arith in ap ones e
+ones-total (suc k) w h =
+    let e = pow-suc 2 k in
+    ones-step w ∙ ap₂ (λ (x y : ℕ). x + y) (ones-digit (w % 2) (omega arith)) (ones-total k (w / 2) (omega arith))
+    ∙ sym (total-first k (λ i. pick (bit i w) 1))

@@ -1,0 +1,9 @@
+pub mod Words
+pub mod Listed
+pub mod Flips
+pub mod Lanes
+pub mod Blocks
+pub mod Judged
+pub mod Data
+pub mod Encoding
+pub mod ValidBlocks

@@ -1,0 +1,10 @@
+-- The rule of the tables of rows: each is, by computing, a list of the rows that pass a test, and so its entries are rows. Assumes nothing.
+use Prim.Native.Nat.{ℕ, _≤_, _<_}
+use mathlib.Core.Bool.{Bool}
+use native.Mathlib.Omega.{arith}
+use Rattle.lane.specs.Rows.{rowsWhere}
+use Rattle.lane.proofs.Rows.{row-passes}
+use Rattle.block.specs.Inner.{Listed}
+
+pub rows-listed : (test : ℕ → Bool) (n : ℕ) → n ≤ 72 → Listed (rowsWhere test n)
+rows-listed test n h k l = let r = row-passes test n k l in (r .0, omega (arith, r .1))

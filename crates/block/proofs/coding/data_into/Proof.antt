@@ -1,0 +1,65 @@
+-- `block::coding::data_into` meets its contract: its tables are, by computing, the data rows of each shape. Assumes nothing.
+use mathlib.Core.Bool.{not}
+use mathlib.Core.Path.{_≡_, sym, ap, _∙_}
+use native.Mathlib.Omega.{arith}
+use borrow.Author.Needs.{needs}
+use Rattle.lane.specs.Rows.{power?, rowsWhere}
+use Rattle.block.specs.declared.Shape.{Shape}
+use Rattle.block.specs.Block.{dataInto}
+use Rattle.block.specs.Inner.{copiedInto}
+use Rattle.block.proofs.Listed.{rows-listed}
+use Rattle.block.proofs.coding.data_into.Statement.{statement}
+use Rattle.block.proofs.coding.data_into.Tie as tie
+
+enum-told : tie.Need-enum-told
+enum-told c = search needs
+
+slice-aggregate-copy-rows : tie.Need-slice-aggregate-copy-rows
+slice-aggregate-copy-rows c = search needs
+
+copy-rows-requires : tie.Need-copy-rows-requires
+unfolding rowsWhere power?
+copy-rows-requires c κs = rows-listed (λ p. not (power? 4 p)) 15 (omega arith)
+
+enum-told-2 : tie.Need-enum-told-2
+enum-told-2 c = search needs
+
+slice-aggregate-copy-rows-2 : tie.Need-slice-aggregate-copy-rows-2
+slice-aggregate-copy-rows-2 c = search needs
+
+copy-rows-requires-2 : tie.Need-copy-rows-requires-2
+unfolding rowsWhere power?
+copy-rows-requires-2 c κs = rows-listed (λ p. not (power? 7 p)) 71 (omega arith)
+
+same-length : tie.Need-same-length
+same-length c = search needs
+
+returns : tie.Need-returns
+unfolding dataInto copiedInto rowsWhere power?
+returns c =
+    let start = c .before .before .before .before .before .before .before .before in
+    c .before .before .copy-rows .ensures ∙ ap (λ (s : Shape). dataInto s (start .args .block .now) (start .args .buffer .now)) (sym (c .before .before .before .before .before .enum-told .given .1))
+
+same-length-2 : tie.Need-same-length-2
+same-length-2 c = search needs
+
+returns-2 : tie.Need-returns-2
+unfolding dataInto copiedInto rowsWhere power?
+returns-2 c =
+    let start = c .before .before .before .before .before .before .before .before in
+    c .before .before .copy-rows2 .ensures ∙ ap (λ (s : Shape). dataInto s (start .args .block .now) (start .args .buffer .now)) (sym (c .before .before .before .before .before .enum-told2 .given .1))
+
+pub data-into-spec : {M : Type 1} → statement M
+data-into-spec =
+    tie.close
+    (tie.spec
+    enum-told
+    slice-aggregate-copy-rows
+    copy-rows-requires
+    enum-told-2
+    slice-aggregate-copy-rows-2
+    copy-rows-requires-2
+    same-length
+    returns
+    same-length-2
+    returns-2)

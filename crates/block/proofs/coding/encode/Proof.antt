@@ -1,0 +1,87 @@
+-- `block::coding::encode` meets its contract: the words of the sums set the check rows. Assumes nothing.
+use Prim.Native.Nat.{ℕ, _^_, _<_}
+use mathlib.Core.Path.{_≡_, ap, ap₂, _∙_}
+use mathlib.Core.List.{List}
+use native.Mathlib.Omega.{arith}
+use lib.Bits.{bitXor}
+use lib.ListN.{getD, set}
+use borrow.Author.Needs.{needs}
+use Rattle.block.specs.declared.Shape.{Shape}
+use Rattle.block.specs.declared.sums.Sums.{Sums}
+use Rattle.block.specs.Shape.{before}
+use Rattle.block.specs.Block.{dataBlock}
+use Rattle.block.specs.Inner.{sumsOf, xorAll, withChecks}
+use Rattle.block.proofs.Data.{before-lt}
+use Rattle.block.proofs.Encoding.{built}
+use Rattle.block.proofs.coding.encode.Statement.{statement}
+use Rattle.block.proofs.coding.encode.Tie as tie
+
+place-data-requires : tie.Need-place-data-requires
+place-data-requires c κs = search needs
+
+slice-aggregate-lane-sums : tie.Need-slice-aggregate-lane-sums
+slice-aggregate-lane-sums c = search needs
+
+lane-sums-requires : tie.Need-lane-sums-requires
+lane-sums-requires c κs = search needs
+
+xor-all-requires : tie.Need-xor-all-requires
+xor-all-requires c κs = search needs
+
+set-checks-requires : tie.Need-set-checks-requires
+set-checks-requires c κs = search needs
+
+rows-before-requires : tie.Need-rows-before-requires
+rows-before-requires c κs = search needs
+
+module _ (c : tie.After-rows-before) where
+  abbrev shape : Shape
+  shape = c .before .before .before .before .before .before .before .before .before .before .before .before .args .shape
+
+  abbrev list : List ℕ
+  list = c .before .before .before .before .before .before .before .before .before .before .before .before .args .list .now
+
+  abbrev placed : List ℕ
+  placed = dataBlock shape list
+
+  abbrev sums : tie.After-lane-sums
+  sums = c .before .before .before .before .before .before .before .before
+
+  placed-is : sums .before .before .place-data .result ≡ placed
+  placed-is = sums .before .before .place-data .ensures
+
+  sums-are : sums .lane-sums .result ≡ sumsOf shape placed
+  sums-are = sums .lane-sums .ensures ∙ ap (sumsOf shape) placed-is
+
+  checks-are : c .before .set-checks .last .0 ≡ withChecks (sumsOf shape placed .digits) placed
+  checks-are = c .before .set-checks .ensures ∙ ap₂ (λ (s : Sums) (b : List ℕ). withChecks (s .digits) b) sums-are placed-is
+
+  words-fit : (k : ℕ) → getD list k 0 < 2 ^ 32
+  words-fit k = omega (arith, sums .before .before .before .shared-slice-known .given k)
+
+mul-block : tie.Need-mul-block
+mul-block c = omega (arith, c .rows-before .ensures, before-lt (shape c))
+
+array-write-block : tie.Need-array-write-block
+array-write-block c = omega (arith, c .rows-before .ensures, before-lt (shape c))
+
+returns : tie.Need-returns
+returns c =
+    ap₂ (λ (w : List ℕ) (k : ℕ). set w k (bitXor (sums c .lane-sums .result .parity) (c .before .before .before .before .before .xor-all .result))) (checks-are c) (c .rows-before .ensures)
+    ∙ ap₂ (λ (p a : ℕ). set (withChecks (sumsOf (shape c) (placed c) .digits) (placed c)) (before (shape c)) (bitXor p a))
+    (ap (λ (s : Sums). s .parity) (sums-are c)) (c .before .before .before .before .before .xor-all .ensures ∙ ap (λ (s : Sums). xorAll 7 (s .digits)) (sums-are c))
+    ∙ built (shape c) (list c) (λ k. words-fit c k)
+
+pub encode-spec : {M : Type 1} → statement M
+encode-spec =
+    tie.close
+    (tie.spec
+    place-data-requires
+    slice-aggregate-lane-sums
+    lane-sums-requires
+    xor-all-requires
+    set-checks-requires
+    rows-before-requires
+    mul-block
+    array-write-block
+    returns)

@@ -1,0 +1,82 @@
+-- `block::coding::set_checks` meets its contract. The loop's invariant: the check rows passed are set. Assumes nothing.
+use Prim.Native.Nat.{ℕ, _≤_, _<_, _-_, _^_}
+use mathlib.Core.Path.{_≡_, refl, ap, _∙_}
+use native.Mathlib.Nat.{pow-suc}
+use native.Mathlib.Numerals.{add-one}
+use native.Mathlib.Omega.{arith}
+use lib.ListN.{getD}
+use lib.Pow.{pow-mono, pow-pos}
+use Rattle.block.specs.Inner.{withChecks}
+use Rattle.block.specs.Stores.{stores}
+use borrow.Author.Needs.{needs}
+use Rattle.block.proofs.coding.set_checks.Statement.{statement}
+use Rattle.block.proofs.coding.set_checks.Tie as tie
+
+abbrev Inv-loop : tie.InvT-loop
+Inv-loop block₀ digits at₀ k₀ block at k = (k ≤ 7) × (block ≡ stores block₀ (λ j. 2 ^ j - 1) (λ j. getD digits j 0) k) × (at ≡ 2 ^ k)
+
+abbrev μ-loop : tie.MeasureT-loop
+μ-loop block₀ digits at₀ k₀ block at k = 7 - k
+
+-- the row is there
+there : (c : tie.In-loop Inv-loop μ-loop) → (1 ≤ c .before .loop .at) × (c .before .loop .at ≤ 64)
+there c =
+    let k = c .before .loop .k in
+    let h : 2 ^ k ≤ 2 ^ 6 = pow-mono {i = k} {j = 6} (omega arith) in
+    omega (arith, pow-pos k)
+
+loop-holds : tie.Need-loop-holds Inv-loop μ-loop
+unfolding stores
+loop-holds c = (omega arith, refl, refl)
+
+mul-block : tie.Need-mul-block Inv-loop μ-loop
+mul-block c = omega arith
+
+element-copy-out-block : tie.Need-element-copy-out-block Inv-loop μ-loop
+element-copy-out-block c = search needs
+
+sub-block : tie.Need-sub-block Inv-loop μ-loop
+sub-block c = there (c .before) .0
+
+mul-block-2 : tie.Need-mul-block-2 Inv-loop μ-loop
+mul-block-2 c = omega (arith, there (c .before))
+
+element-write-block : tie.Need-element-write-block Inv-loop μ-loop
+element-write-block c = omega (arith, there (c .before))
+
+mul-at : tie.Need-mul-at Inv-loop μ-loop
+mul-at c = omega (arith, there (c .before))
+
+add-k : tie.Need-add-k Inv-loop μ-loop
+add-k c = search needs
+
+loop-less : tie.Need-loop-less Inv-loop μ-loop
+loop-less c = search needs
+
+loop-again : tie.Need-loop-again Inv-loop μ-loop
+unfolding stores
+loop-again c = rw add-one (omega arith, rw (c .before .before .loop .inv .1, c .before .before .loop .inv .2), rw pow-suc (omega arith))
+
+returns : tie.Need-returns Inv-loop μ-loop
+unfolding withChecks
+returns c =
+    let e : c .before .loop .k ≡ 7 = omega arith in
+    c .before .loop .inv .1 ∙ ap (λ (k : ℕ). stores (c .before .before .args .block .now) (λ j. 2 ^ j - 1) (λ j. getD (c .before .before .args .digits .now) j 0) k) e
+
+pub set-checks-spec : {M : Type 1} → statement M
+set-checks-spec =
+    tie.close
+    (tie.spec
+    Inv-loop
+    μ-loop
+    loop-holds
+    mul-block
+    element-copy-out-block
+    sub-block
+    mul-block-2
+    element-write-block
+    mul-at
+    add-k
+    loop-less
+    loop-again
+    returns)

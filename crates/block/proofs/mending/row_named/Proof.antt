@@ -1,0 +1,100 @@
+-- `block::mending::row_named` meets its contract. The loop's invariant: the sum is that of the digits passed. Assumes nothing.
+use Prim.Native.Nat.{ℕ, _≤_, _<_, _+_, _-_, _^_}
+use mathlib.Core.Path.{_≡_, refl, sym, ap, _∙_}
+use mathlib.Core.Logic.{⊎-elim}
+use native.Mathlib.Nat.{pow-suc}
+use native.Mathlib.Numerals.{add-one}
+use native.Mathlib.Omega.{arith}
+use lib.ListN.{getD}
+use lib.Pow.{pow-mono}
+use Rattle.lane.specs.Bit.{bit}
+use borrow.Author.Tests.{eq-eqb, ne-eqb}
+use Rattle.block.specs.Words.{number}
+use Rattle.block.specs.Inner.{sumAt}
+use Rattle.block.proofs.Words.{digit-one, digit-zero, number-lt}
+use borrow.Author.Needs.{needs}
+use Rattle.block.proofs.mending.row_named.Statement.{statement}
+use Rattle.block.proofs.mending.row_named.Tie as tie
+
+abbrev Inv-loop : tie.InvT-loop
+Inv-loop digits i last sum₀ weight₀ k₀ sum weight k = (k ≤ 7) × (sum ≡ number k (λ j. bit i (getD digits j 0))) × (weight ≡ 2 ^ k)
+
+abbrev μ-loop : tie.MeasureT-loop
+μ-loop digits i last sum₀ weight₀ k₀ sum weight k = 7 - k
+
+-- the weight of a digit is at most 64
+small : (c : tie.In-loop Inv-loop μ-loop) → 2 ^ c .before .loop .k ≤ 64
+small c = pow-mono {i = c .before .loop .k} {j = 6} (omega arith)
+
+loop-holds : tie.Need-loop-holds Inv-loop μ-loop
+unfolding number
+loop-holds c = (omega arith, refl, refl)
+
+mul-if1 : tie.Need-mul-if1 Inv-loop μ-loop
+mul-if1 c = search needs
+
+element-copy-out-if1 : tie.Need-element-copy-out-if1 Inv-loop μ-loop
+element-copy-out-if1 c = search needs
+
+shr-if1 : tie.Need-shr-if1 Inv-loop μ-loop
+shr-if1 c = search needs
+
+add-sum : tie.Need-add-sum Inv-loop μ-loop
+add-sum c =
+    let h = small (c .before .before) in
+    omega (arith, number-lt (c .before .before .before .loop .k) (λ j. bit (c .before .before .before .before .args .i) (getD (c .before .before .before .before .args .digits .now) j 0)))
+
+mul-weight : tie.Need-mul-weight Inv-loop μ-loop
+mul-weight c = let h = small (c .before .before) in omega arith
+
+add-k : tie.Need-add-k Inv-loop μ-loop
+add-k c = search needs
+
+loop-less : tie.Need-loop-less Inv-loop μ-loop
+loop-less c = search needs
+
+loop-again : tie.Need-loop-again Inv-loop μ-loop
+unfolding number
+loop-again c =
+    let words = c .before .before .before .before .args .digits .now in
+    let i = c .before .before .before .before .args .i in
+    let k = c .before .before .before .loop .k in (
+      omega arith,
+      rw add-one
+          (⊎-elim
+          (λ w. rw (w .1, digit-one i (getD words k 0) (w .0 .taken), c .before .before .before .loop .inv .1, c .before .before .before .loop .inv .2))
+          (λ w. rw (w .1, digit-zero i (getD words k 0) (w .0 .left), c .before .before .before .loop .inv .1) (omega arith))
+          (c .if1 .came)),
+      rw (add-one, pow-suc) (omega arith),
+    )
+
+whole : (c : tie.After-loop Inv-loop μ-loop) → c .before .loop .sum ≡ sumAt (c .before .before .args .digits .now) (c .before .before .args .i)
+whole c =
+    let e : c .before .loop .k ≡ 7 = omega arith in
+    c .before .loop .inv .1 ∙ ap (λ (k : ℕ). number k (λ j. bit (c .before .before .args .i) (getD (c .before .before .args .digits .now) j 0))) e
+
+returns : tie.Need-returns Inv-loop μ-loop
+returns c = rw (eq-eqb (sumAt (c .before .before .before .args .digits .now) (c .before .before .before .args .i)) 0 (sym (whole (c .before)) ∙ c .if2 .taken))
+
+returns-2 : tie.Need-returns-2 Inv-loop μ-loop
+returns-2 c =
+    rw (ne-eqb (sumAt (c .before .before .before .args .digits .now) (c .before .before .before .args .i)) 0 (λ e. c .if2 .left (whole (c .before) ∙ e)))
+    (whole (c .before))
+
+pub row-named-spec : {M : Type 1} → statement M
+row-named-spec =
+    tie.close
+    (tie.spec
+    Inv-loop
+    μ-loop
+    loop-holds
+    mul-if1
+    element-copy-out-if1
+    shr-if1
+    add-sum
+    mul-weight
+    add-k
+    loop-less
+    loop-again
+    returns
+    returns-2)

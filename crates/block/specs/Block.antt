@@ -1,0 +1,68 @@
+-- A block is valid if all 32 lanes are. For each choice of data there is exactly one valid block.
+-- A block is mended lane by lane; if a lane is lost, not one word is altered, its good lanes included. Assumes nothing.
+use Prim.Native.Nat.{ℕ, zero, suc, _-_, _<_}
+use mathlib.Core.Bool.{cond}
+use mathlib.Core.List.{List}
+use lib.Bits.{bitXor}
+use lib.Dec.{ltb}
+use lib.ListN.{length, getD, replicate}
+use Rattle.lane.specs.Bit.{pick}
+use Rattle.lane.specs.Lane.{Valid, apart}
+use Rattle.lane.specs.Decision.{decide, lost?, changes}
+use Rattle.lane.specs.Encoded.{encoded}
+use Rattle.block.specs.declared.Shape.{Shape}
+use Rattle.block.specs.Shape.{before, rows, digits, dataRowsOf, words}
+use Rattle.block.specs.Words.{row, lane, word, listOf, total}
+use Rattle.block.specs.Stores.{stores}
+
+abbrev pub ValidBlock : Shape → List ℕ → Type 0
+ValidBlock shape block = (i : ℕ) → i < 32 → Valid (before shape) (lane i block)
+
+-- ---- data
+
+-- 72 words of zero
+abbrev pub blank : List ℕ
+blank = replicate 72 0
+
+-- the data words, in order, in the data rows; zero elsewhere
+unfoldable pub dataBlock : Shape → List ℕ → List ℕ
+dataBlock shape list =
+    stores blank (λ k. getD (dataRowsOf shape) k 0 - 1) (λ k. getD list k 0) (words shape)
+
+-- the valid block for a list of data words
+unfoldable pub validBlock : Shape → List ℕ → List ℕ
+validBlock shape list =
+    listOf 72
+    (λ j. cond (ltb j (rows shape)) (word (λ i. encoded (digits shape) (before shape) (lane i (dataBlock shape list)) (suc j))) 0)
+
+-- the data words of a block
+unfoldable pub dataOf : Shape → List ℕ → List ℕ
+dataOf shape block = listOf (words shape) (λ k. row (getD (dataRowsOf shape) k 0) block)
+
+-- a buffer with the data words of a block copied to it
+unfoldable pub dataInto : Shape → List ℕ → List ℕ → List ℕ
+dataInto shape block buffer = stores buffer (λ k. k) (λ k. row (getD (dataRowsOf shape) k 0) block) (words shape)
+
+-- ---- mending
+
+-- how many lanes are lost
+unfoldable pub lanesLost : Shape → List ℕ → ℕ
+lanesLost shape block = total 32 (λ i. pick (lost? (decide (before shape) (lane i block))) 1)
+
+-- the first where the number is 0, else the second
+abbrev pub ifZero : {A : Type 0} → ℕ → A → A → A
+ifZero zero a b = a
+ifZero (suc n) a b = b
+
+-- the block with the row that each lane's decision names changed in that lane
+unfoldable pub mendedLanes : Shape → List ℕ → List ℕ
+mendedLanes shape block =
+    listOf (length block) (λ j. bitXor (getD block j 0) (word (λ i. changes (decide (before shape) (lane i block)) (suc j))))
+
+-- what a visit leaves
+unfoldable pub mendedBlock : Shape → List ℕ → List ℕ
+mendedBlock shape block = ifZero (lanesLost shape block) (mendedLanes shape block) block
+
+-- how many bits differ between two blocks
+unfoldable pub bitsChanged : Shape → List ℕ → List ℕ → ℕ
+bitsChanged shape old new = total 32 (λ i. apart (before shape) (lane i old) (lane i new))

@@ -1,0 +1,27 @@
+-- Clean 0: block valid, nothing changed. Mended m: no lane lost, m bits changed. Lost m: m lanes are lost.
+-- The verdicts are numbered 1 clean, 2 mended, 3 lost. Assumes nothing.
+use Prim.Native.Nat.{ℕ, zero, suc}
+use mathlib.Core.List.{List}
+use Rattle.block.specs.declared.Shape.{Shape}
+use Rattle.block.specs.declared.Verdict.{Verdict}
+use Rattle.block.specs.declared.Verdict.the-variants.{Clean, Mended, Lost}
+use Rattle.block.specs.Block.{lanesLost, bitsChanged, mendedBlock}
+
+abbrev pub verdictNumber : Verdict → ℕ
+verdictNumber Clean = 1
+verdictNumber (Mended m) = 2
+verdictNumber (Lost m) = 3
+
+abbrev pub verdictCount : Verdict → ℕ
+verdictCount Clean = 0
+verdictCount (Mended m) = m
+verdictCount (Lost m) = m
+
+-- by the lanes lost and the bits changed
+abbrev pub verdict : ℕ → ℕ → Verdict
+verdict zero zero = Clean
+verdict zero (suc m) = Mended (suc m)
+verdict (suc l) m = Lost (suc l)
+
+unfoldable pub verdictOf : Shape → List ℕ → Verdict
+verdictOf shape block = verdict (lanesLost shape block) (bitsChanged shape block (mendedBlock shape block))

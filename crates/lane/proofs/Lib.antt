@@ -1,0 +1,7 @@
+pub mod Bits
+pub mod Linear
+pub mod Distance
+pub mod Decided
+pub mod Mended
+pub mod Rows
+pub mod Exactly

@@ -1,0 +1,100 @@
+-- What the decision leaves: a valid lane, one change in an odd lane and none in an even one, and the lane that was meant. Assumes nothing.
+use Prim.Native.Nat.{ℕ, zero, suc, _+_, _≤_, _<_}
+use mathlib.Core.Bool.{Bool, true, false, true≢false, cond, _&&_}
+use mathlib.Core.Path.{_≡_, refl, sym, ap, ap₂, _∙_}
+use native.Mathlib.Nat.{le-refl}
+use native.Mathlib.Omega.{arith}
+use lib.Bits.{bitXor, xor-zero-r}
+use lib.Dec.{leb, eqb}
+use borrow.Author.Tests.{leb-true}
+use Rattle.lane.specs.Bit.{bit, _⊕_, pick}
+use Rattle.lane.specs.Lane.{Lane, sum, count, odd, Valid, diff, apart}
+use Rattle.lane.specs.Decision.{Decision, unchanged, lost, flipped, decision, decide, lost?, changes, mended, Right}
+use Rattle.lane.proofs.Bits.{⊕-zero, bit-zero}
+use Rattle.lane.proofs.Linear.{count-same, valid-same}
+use Rattle.lane.proofs.Distance.{never-two}
+use Rattle.lane.proofs.Decided.{decided, only-within}
+
+pub ⊕-cancel : (a b : Bool) → a ⊕ (a ⊕ b) ≡ b
+⊕-cancel true true = refl
+⊕-cancel true false = refl
+⊕-cancel false b = refl
+
+pub ⊕-self : (b : Bool) → b ⊕ b ≡ false
+⊕-self true = refl
+⊕-self false = refl
+
+-- the lane that holds no ones
+pub count-empty : (n : ℕ) → count n (λ p. false) ≡ 0
+unfolding count
+count-empty zero = refl
+count-empty (suc n) = ap (λ (c : ℕ). c + 0) (count-empty n)
+
+pub sum-empty : (m : ℕ) → sum m (λ p. false) ≡ 0
+unfolding sum
+sum-empty zero = refl
+sum-empty (suc m) = xor-zero-r (sum m (λ p. false)) ∙ sum-empty m
+
+pub valid-empty : (m : ℕ) → Valid m (λ p. false)
+valid-empty m = record { sum-zero = sum-empty m; even = ap (bit 0) (count-empty (suc m)) ∙ bit-zero 0 }
+
+module _ (m : ℕ) (f : Lane) where
+  by-right : (d : Decision) → Right m f d → lost? d ≡ false → Valid m (diff f (changes d))
+  by-right unchanged v ok = valid-same m f (diff f (changes unchanged)) (λ j l. sym (⊕-zero (f (suc j)))) v
+  by-right (flipped r) v ok = v .2
+  by-right lost v ok = absurd (true≢false ok)
+
+  -- a lane that is not lost is valid once mended
+  pub mended-valid : lost? (decide m f) ≡ false → Valid m (mended m f)
+  mended-valid ok = by-right (decide m f) (decided m f) ok
+
+  changed : (d : Decision) → apart m f (diff f (changes d)) ≡ count (suc m) (changes d)
+  changed d = count-same (suc m) (diff f (diff f (changes d))) (changes d) (λ j l. ⊕-cancel (f (suc j)) (changes d (suc j)))
+
+  by-row : (s : ℕ) (t : Bool) → leb (suc s) m ≡ t → lost? (cond t (flipped (suc s)) lost) ≡ false → count (suc m) (changes (cond t (flipped (suc s)) lost)) ≡ 1
+  by-row s true e ok = let h = leb-true (suc s) m e in only-within (suc m) (suc s) (omega arith) (omega arith) .0
+  by-row s false e ok = absurd (true≢false ok)
+
+  by-case : (o : Bool) (s : ℕ) → lost? (decision m o s) ≡ false → count (suc m) (changes (decision m o s)) ≡ pick o 1
+  unfolding decision
+  by-case false zero ok = count-empty (suc m)
+  by-case false (suc s) ok = absurd (true≢false ok)
+  by-case true zero ok = only-within (suc m) (suc m) (omega arith) (le-refl (suc m)) .0
+  by-case true (suc s) ok = by-row s (leb (suc s) m) refl ok
+
+  -- mending changes one row of an odd lane and none of an even one
+  pub mended-count : lost? (decide m f) ≡ false → apart m f (mended m f) ≡ pick (odd (suc m) f) 1
+  mended-count ok = changed (decide m f) ∙ by-case (odd (suc m) f) (sum m f) ok
+
+  at-most-one : (b : Bool) → pick b 1 ≤ 1
+  at-most-one true = omega arith
+  at-most-one false = omega arith
+
+  pub mended-near : lost? (decide m f) ≡ false → apart m f (mended m f) ≤ 1
+  mended-near ok = rw (mended-count ok) (at-most-one (odd (suc m) f))
+
+  -- a lost lane is left as it was
+  left : (d : Decision) → lost? d ≡ true → (p : ℕ) → changes d p ≡ false
+  left unchanged e p = refl
+  left lost e p = refl
+  left (flipped r) e p = absurd (true≢false (sym e))
+
+  pub lost-left : lost? (decide m f) ≡ true → (p : ℕ) → mended m f p ≡ f p
+  lost-left e p = ap (λ (b : Bool). f p ⊕ b) (left (decide m f) e p) ∙ ⊕-zero (f p)
+
+  module _ (g : Lane) (v : Valid m g) (h : apart m f g ≤ 1) where
+    by-near : (d : Decision) → Right m f d → lost? d ≡ false
+    by-near unchanged r = refl
+    by-near lost r = absurd (r g v h)
+    by-near (flipped p) r = refl
+
+    -- a lane within one row of a valid one is not lost, and is mended to that one
+    pub near-kept : lost? (decide m f) ≡ false
+    near-kept = by-near (decide m f) (decided m f)
+
+    pub near-mended : (j : ℕ) → j < suc m → mended m f (suc j) ≡ g (suc j)
+    near-mended = never-two m f (mended m f) g (mended-valid near-kept) v (mended-near near-kept) h
+
+  -- a valid lane is not lost and stays as it is
+  pub valid-near : Valid m f → apart m f f ≤ 1
+  valid-near v = rw (count-same (suc m) (diff f f) (λ p. false) (λ j l. ⊕-self (f (suc j))), count-empty (suc m)) (omega arith)

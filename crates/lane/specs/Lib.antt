@@ -1,0 +1,5 @@
+pub mod Bit
+pub mod Lane
+pub mod Decision
+pub mod Rows
+pub mod Encoded
