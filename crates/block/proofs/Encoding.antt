@@ -68,7 +68,7 @@ xor-seven One s h =
     ∙ ⊕-zero (xorDigits 4 s)
 xor-seven Two s h = refl
 
-xor-over-lt : (list block : List ℕ) → ((j : ℕ) → getD block j 0 < 2 ^ 32) → xorOver list block < 2 ^ 32
+pub xor-over-lt : (list block : List ℕ) → ((j : ℕ) → getD block j 0 < 2 ^ 32) → xorOver list block < 2 ^ 32
 unfolding xorOver
 xor-over-lt [] block h = pow-pos 32
 xor-over-lt (p ∷ list) block h = xor-lt 32 (row p block) (xorOver list block) (row-lt p) (xor-over-lt list block h)

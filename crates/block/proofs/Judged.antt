@@ -116,7 +116,7 @@ module _ (shape : Shape) (block : List ℕ) where
         (bit-and i parity (aboveOf m 7 digits) ∙ ap₂ _&&_ (lane-odd i) (lane-above i))
         ∙ lost-test m (oddLane i) (sumLane i)
 
-    lost-lt : lostLanes m parity digits < 2 ^ 32
+    pub lost-lt : lostLanes m parity digits < 2 ^ 32
     lost-lt =
         or-lt 32 (bitAnd (anyOf 7 digits) ((2 ^ 32 - 1) - parity)) (bitAnd parity (aboveOf m 7 digits))
         (omega (arith, and-le-l (anyOf 7 digits) ((2 ^ 32 - 1) - parity))) (omega (arith, and-le-l parity (aboveOf m 7 digits)))

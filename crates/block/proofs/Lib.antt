@@ -7,3 +7,4 @@ pub mod Judged
 pub mod Data
 pub mod Encoding
 pub mod ValidBlocks
+pub mod ByWords
