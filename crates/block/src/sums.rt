@@ -63,9 +63,11 @@ fn sums_two(block: &[u32]) -> Sums
     let d4 = over(block, &COVERED_TWO_16);
     let d5 = over(block, &COVERED_TWO_32);
     let d6 = over(block, &COVERED_TWO_64);
+    let low = over(block, &COVERED_TWO_72_LOW);
+    let high = over(block, &COVERED_TWO_72_HIGH);
     Sums {
         digits: [d0, d1, d2, d3, d4, d5, d6],
-        parity: over(block, &COVERED_TWO_72),
+        parity: low ^ high,
     }
 }
 

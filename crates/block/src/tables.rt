@@ -317,8 +317,8 @@ pub const COVERED_TWO_32: [u8; 32] = [
 // The rows that check row 64 covers.
 pub const COVERED_TWO_64: [u8; 8] = [64, 65, 66, 67, 68, 69, 70, 71];
 
-// The rows that check row 72, the last, covers.
-pub const COVERED_TWO_72: [u8; 72] = [
+// The rows that check row 72, the last, covers, in two halves.
+pub const COVERED_TWO_72_LOW: [u8; 36] = [
     1,
     2,
     3,
@@ -355,6 +355,9 @@ pub const COVERED_TWO_72: [u8; 72] = [
     34,
     35,
     36,
+];
+
+pub const COVERED_TWO_72_HIGH: [u8; 36] = [
     37,
     38,
     39,
