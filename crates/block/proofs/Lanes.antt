@@ -16,7 +16,7 @@ use Rattle.lane.specs.Bit.{set?, bit, _⊕_, pick}
 use Rattle.lane.specs.Lane.{sum, count, odd}
 use Rattle.lane.specs.Rows.{rowsWhere, covered, allRows}
 use Rattle.lane.specs.Decision.{Decision, flipped, lost, decision, lost?}
-use Rattle.lane.proofs.Bits.{bit-zero, bit-xor, bit-and, bit-or, bit-shift}
+use Rattle.lane.proofs.Bits.{bit-zero, bit-xor, bit-and, bit-or, bit-shift, xor-swap}
 use Rattle.lane.proofs.Linear.{odd-suc}
 use Rattle.lane.proofs.Exactly.{pick-bit, sum-lt}
 use Rattle.block.specs.Words.{row, lane, number, listOf, total}
@@ -34,6 +34,19 @@ xor-where test n block = go (test (suc n))
     go : (b : Bool) → xorOver (rowsWhere test n ++ cond b (suc n ∷ []) []) block ≡ bitXor (xorOver (rowsWhere test n) block) (pick b (row (suc n) block))
     go true = xor-snoc (rowsWhere test n) (suc n) block
     go false = ap (λ (l : List ℕ). xorOver l block) (append-nil (rowsWhere test n)) ∙ sym (xor-zero-r (xorOver (rowsWhere test n) block))
+
+-- the rows that pass a test and those that fail it are all rows
+pub xor-all-rows : (test : ℕ → Bool) (n : ℕ) (block : List ℕ)
+    → bitXor (xorOver (rowsWhere test n) block) (xorOver (rowsWhere (λ p. not (test p)) n) block) ≡ xorOver (rowsWhere (λ p. true) n) block
+xor-all-rows test zero block = unfold rowsWhere in (unfold xorOver in refl)
+xor-all-rows test (suc n) block =
+    ap₂ bitXor (xor-where test n block) (xor-where (λ p. not (test p)) n block)
+    ∙ xor-swap (xorOver (rowsWhere test n) block) _ (xorOver (rowsWhere (λ p. not (test p)) n) block) _
+    ∙ ap₂ bitXor (xor-all-rows test n block) (one (test (suc n)) (row (suc n) block)) ∙ sym (xor-where (λ p. true) n block)
+  where
+    one : (b : Bool) (w : ℕ) → bitXor (pick b w) (pick (not b) w) ≡ w
+    one true w = xor-zero-r w
+    one false w = refl
 
 and-comm : (a b : Bool) → a && b ≡ b && a
 and-comm true true = refl

@@ -29,12 +29,6 @@ unfolding xorOver
 xor-snoc [] p block = xor-zero-r (row p block)
 xor-snoc (q ∷ list) p block = ap (bitXor (row q block)) (xor-snoc list p block) ∙ sym (xor-assoc (row q block) (xorOver list block) (row p block))
 
-pub xor-append : (xs ys block : List ℕ) → xorOver (xs ++ ys) block ≡ bitXor (xorOver xs block) (xorOver ys block)
-unfolding xorOver
-xor-append [] ys block = refl
-xor-append (p ∷ xs) ys block =
-    ap (bitXor (row p block)) (xor-append xs ys block) ∙ sym (xor-assoc (row p block) (xorOver xs block) (xorOver ys block))
-
 pub xor-more : (list : List ℕ) (k : ℕ) (block : List ℕ) → k < length list
     → bitXor (xorOver (take k list) block) (row (getD list k 0) block) ≡ xorOver (take (suc k) list) block
 xor-more list k block h = sym (ap (λ (l : List ℕ). xorOver l block) (take-suc list k 0 h) ∙ xor-snoc (take k list) (getD list k 0) block)

@@ -46,9 +46,10 @@ fn sums_one(block: &[u32]) -> Sums
     let d1 = over(block, &COVERED_ONE_2);
     let d2 = over(block, &COVERED_ONE_4);
     let d3 = over(block, &COVERED_ONE_8);
+    let rest = over(block, &COVERED_ONE_16);
     Sums {
         digits: [d0, d1, d2, d3, 0, 0, 0],
-        parity: over(block, &COVERED_ONE_16),
+        parity: d0 ^ rest,
     }
 }
 
@@ -63,11 +64,10 @@ fn sums_two(block: &[u32]) -> Sums
     let d4 = over(block, &COVERED_TWO_16);
     let d5 = over(block, &COVERED_TWO_32);
     let d6 = over(block, &COVERED_TWO_64);
-    let low = over(block, &COVERED_TWO_72_LOW);
-    let high = over(block, &COVERED_TWO_72_HIGH);
+    let rest = over(block, &COVERED_TWO_72);
     Sums {
         digits: [d0, d1, d2, d3, d4, d5, d6],
-        parity: low ^ high,
+        parity: d0 ^ rest,
     }
 }
 

@@ -15,8 +15,8 @@ pub const COVERED_ONE_4: [u8; 8] = [4, 5, 6, 7, 12, 13, 14, 15];
 // The rows that check row 8 covers.
 pub const COVERED_ONE_8: [u8; 8] = [8, 9, 10, 11, 12, 13, 14, 15];
 
-// The rows that check row 16, the last, covers.
-pub const COVERED_ONE_16: [u8; 16] = [1, 2, 3, 4, 5, 6, 7, 8, 9, 10, 11, 12, 13, 14, 15, 16];
+// The rows that check row 16, the last, covers beside those of check row 1.
+pub const COVERED_ONE_16: [u8; 8] = [2, 4, 6, 8, 10, 12, 14, 16];
 
 // The data rows of shape 2.
 pub const DATA_TWO: [u8; 64] = [
@@ -317,81 +317,42 @@ pub const COVERED_TWO_32: [u8; 32] = [
 // The rows that check row 64 covers.
 pub const COVERED_TWO_64: [u8; 8] = [64, 65, 66, 67, 68, 69, 70, 71];
 
-// The rows that check row 72, the last, covers, in two halves.
-pub const COVERED_TWO_72_LOW: [u8; 36] = [
-    1,
+// The rows that check row 72, the last, covers beside those of check row 1.
+pub const COVERED_TWO_72: [u8; 36] = [
     2,
-    3,
     4,
-    5,
     6,
-    7,
     8,
-    9,
     10,
-    11,
     12,
-    13,
     14,
-    15,
     16,
-    17,
     18,
-    19,
     20,
-    21,
     22,
-    23,
     24,
-    25,
     26,
-    27,
     28,
-    29,
     30,
-    31,
     32,
-    33,
     34,
-    35,
     36,
-];
-
-pub const COVERED_TWO_72_HIGH: [u8; 36] = [
-    37,
     38,
-    39,
     40,
-    41,
     42,
-    43,
     44,
-    45,
     46,
-    47,
     48,
-    49,
     50,
-    51,
     52,
-    53,
     54,
-    55,
     56,
-    57,
     58,
-    59,
     60,
-    61,
     62,
-    63,
     64,
-    65,
     66,
-    67,
     68,
-    69,
     70,
-    71,
     72,
 ];

@@ -1,18 +1,17 @@
 -- `block::sums::sums_two` meets its contract: its tables are, by computing, the rows that each check row covers. Assumes nothing.
-use mathlib.Core.Bool.{true}
-use mathlib.Core.List.{List}
-use mathlib.Core.Path.{_≡_, sym, ap}
 use Prim.Native.Nat.{ℕ}
+use mathlib.Core.Bool.{not}
+use mathlib.Core.List.{List}
+use mathlib.Core.Path.{_≡_, ap}
 use native.Mathlib.Omega.{arith}
 use lib.Bits.{bitXor}
-use lib.Dec.{leb}
 use borrow.Author.Needs.{needs}
 use Rattle.lane.specs.Bit.{bit}
-use Rattle.lane.specs.Rows.{rowsWhere, allRows}
+use Rattle.lane.specs.Rows.{rowsWhere, covered, allRows}
 use Rattle.block.specs.declared.Shape.the-variants.{Two}
 use Rattle.block.specs.Words.{listOf}
 use Rattle.block.specs.Inner.{xorOver, sumsOf}
-use Rattle.block.proofs.Words.{xor-append}
+use Rattle.block.proofs.Lanes.{xor-all-rows}
 use Rattle.block.proofs.Listed.{rows-listed}
 use Rattle.block.proofs.sums.sums_two.Statement.{statement}
 use Rattle.block.proofs.sums.sums_two.Tie as tie
@@ -70,37 +69,28 @@ slice-aggregate-over-8 : tie.Need-slice-aggregate-over-8
 slice-aggregate-over-8 c = search needs
 
 over-requires-8 : tie.Need-over-requires-8
-unfolding rowsWhere
-over-requires-8 c κs = (c .before .before .before .before .before .before .before .before .before .before .before .before .before .before .before .before .pre, rows-listed (λ p. true) 36 (omega arith))
+unfolding rowsWhere bit
+over-requires-8 c κs = (c .before .before .before .before .before .before .before .before .before .before .before .before .before .before .before .before .pre, rows-listed (λ p. not (bit 0 p)) 72 (omega arith))
 
-slice-aggregate-over-9 : tie.Need-slice-aggregate-over-9
-slice-aggregate-over-9 c = search needs
-
-over-requires-9 : tie.Need-over-requires-9
-unfolding rowsWhere
-over-requires-9 c κs = (c .before .before .before .before .before .before .before .before .before .before .before .before .before .before .before .before .before .before .pre, rows-listed (leb 37) 72 (omega arith))
-
--- the last row's two halves are all rows
-halves : (block : List ℕ)
-    → bitXor (xorOver (rowsWhere (λ p. true) 36) block) (xorOver (rowsWhere (leb 37) 72) block) ≡ xorOver (allRows 71) block
-unfolding rowsWhere
-halves block = sym (xor-append (rowsWhere (λ p. true) 36) (rowsWhere (leb 37) 72) block)
+-- the last row covers what check row 1 covers, and the rest
+all-rows : (block : List ℕ) → bitXor (xorOver (covered 0 71) block) (xorOver (rowsWhere (λ p. not (bit 0 p)) 72) block) ≡ xorOver (allRows 71) block
+unfolding rowsWhere bit
+all-rows block = xor-all-rows (bit 0) 72 block
 
 returns : tie.Need-returns
 unfolding listOf rowsWhere bit
 returns c =
     rw (
-      c .before .before .before .before .before .before .before .before .before .before .before .before .before .before .before .before .over .ensures,
-      c .before .before .before .before .before .before .before .before .before .before .before .before .before .before .over2 .ensures,
-      c .before .before .before .before .before .before .before .before .before .before .before .before .over3 .ensures,
-      c .before .before .before .before .before .before .before .before .before .before .over4 .ensures,
-      c .before .before .before .before .before .before .before .before .over5 .ensures,
-      c .before .before .before .before .before .before .over6 .ensures,
-      c .before .before .before .before .over7 .ensures,
-      c .before .before .over8 .ensures,
-      c .over9 .ensures,
+      c .before .before .before .before .before .before .before .before .before .before .before .before .before .before .over .ensures,
+      c .before .before .before .before .before .before .before .before .before .before .before .before .over2 .ensures,
+      c .before .before .before .before .before .before .before .before .before .before .over3 .ensures,
+      c .before .before .before .before .before .before .before .before .over4 .ensures,
+      c .before .before .before .before .before .before .over5 .ensures,
+      c .before .before .before .before .over6 .ensures,
+      c .before .before .over7 .ensures,
+      c .over8 .ensures,
     )
-    (ap (λ (p : ℕ). record { digits = sumsOf Two (c .before .before .before .before .before .before .before .before .before .before .before .before .before .before .before .before .before .before .before .args .block .now) .digits; parity = p }) (halves (c .before .before .before .before .before .before .before .before .before .before .before .before .before .before .before .before .before .before .before .args .block .now)))
+    (ap (λ (p : ℕ). record { digits = sumsOf Two (c .before .before .before .before .before .before .before .before .before .before .before .before .before .before .before .before .before .args .block .now) .digits; parity = p }) (all-rows (c .before .before .before .before .before .before .before .before .before .before .before .before .before .before .before .before .before .args .block .now)))
 
 pub sums-two-spec : {M : Type 1} → statement M
 sums-two-spec =
@@ -122,6 +112,4 @@ sums-two-spec =
     over-requires-7
     slice-aggregate-over-8
     over-requires-8
-    slice-aggregate-over-9
-    over-requires-9
     returns)
