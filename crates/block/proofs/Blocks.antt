@@ -20,7 +20,7 @@ use Rattle.lane.proofs.Mended.{mended-valid, mended-count, mended-near, near-ke
 use Rattle.block.specs.declared.Shape.{Shape}
 use Rattle.block.specs.Shape.{before, rows}
 use Rattle.block.specs.Words.{lane, word, listOf, total}
-use Rattle.block.specs.Block.{ValidBlock, lanesLost, ifZero, mendedLanes, mendedBlock, bitsChanged}
+use Rattle.block.specs.Block.{ValidBlock, Near, SameRows, Fitting, lanesLost, ifZero, mendedLanes, mendedBlock, bitsChanged}
 use Rattle.block.proofs.Words.{bit-number, number-lt, number-same}
 use Rattle.block.proofs.Flips.{getD-listOf, length-listOf, list-is, word-none}
 use Rattle.block.proofs.Lanes.{total-same, total-zero}
@@ -101,17 +101,6 @@ module _ (shape : Shape) (block : List ℕ) where
     lanes-near k i hi = rw (lane-apart i hi) (mended-near (before shape) (lane i block) (k i hi))
 
 -- ---- one block at most
-
--- two blocks differ in at most one bit a lane
-abbrev pub Near : Shape → List ℕ → List ℕ → Type 0
-Near shape old new = (i : ℕ) → i < 32 → apart (before shape) (lane i old) (lane i new) ≤ 1
-
--- the rows of two blocks are the same
-abbrev pub SameRows : Shape → List ℕ → List ℕ → Type 0
-SameRows shape a b = (j : ℕ) → j < rows shape → getD a j 0 ≡ getD b j 0
-
-abbrev pub Fitting : List ℕ → Type 0
-Fitting block = (j : ℕ) → getD block j 0 < 2 ^ 32
 
 pub rows-same : (shape : Shape) (a b : List ℕ) → Fitting a → Fitting b
     → ((i : ℕ) → i < 32 → (j : ℕ) → j < rows shape → lane i a (suc j) ≡ lane i b (suc j)) → SameRows shape a b

@@ -24,7 +24,8 @@ use Rattle.block.specs.Block.{ValidBlock, blank, dataBlock, validBlock, 
 use Rattle.block.proofs.Words.{row-at, bit-number, number-lt, number-bits}
 use Rattle.block.proofs.Flips.{getD-listOf, length-listOf, list-is}
 use Rattle.block.proofs.Data.{before-digits, before-lt, dataRow, entry-row, row-entry, data-hit, data-lt, data-miss}
-use Rattle.block.proofs.Blocks.{SameRows, Fitting, rows-same}
+use Rattle.block.specs.Block.{SameRows, Fitting}
+use Rattle.block.proofs.Blocks.{rows-same}
 
 module _ (shape : Shape) (list : List ℕ) where
   pub length-valid : length (validBlock shape list) ≡ 72

@@ -1,6 +1,7 @@
 -- A block is valid if all 32 lanes are. For each choice of data there is exactly one valid block.
 -- A block is mended lane by lane; if a lane is lost, not one word is altered, its good lanes included. Assumes nothing.
-use Prim.Native.Nat.{ℕ, zero, suc, _-_, _<_}
+use Prim.Native.Nat.{ℕ, zero, suc, _-_, _^_, _≤_, _<_}
+use mathlib.Core.Path.{_≡_}
 use mathlib.Core.Bool.{cond}
 use mathlib.Core.List.{List}
 use lib.Bits.{bitXor}
@@ -17,6 +18,18 @@ use Rattle.block.specs.Stores.{stores}
 
 abbrev pub ValidBlock : Shape → List ℕ → Type 0
 ValidBlock shape block = (i : ℕ) → i < 32 → Valid (before shape) (lane i block)
+
+-- two blocks differ in at most one bit a lane
+abbrev pub Near : Shape → List ℕ → List ℕ → Type 0
+Near shape old new = (i : ℕ) → i < 32 → apart (before shape) (lane i old) (lane i new) ≤ 1
+
+-- the rows of two blocks are the same
+abbrev pub SameRows : Shape → List ℕ → List ℕ → Type 0
+SameRows shape a b = (j : ℕ) → j < rows shape → getD a j 0 ≡ getD b j 0
+
+-- every word fits in 32 bits
+abbrev pub Fitting : List ℕ → Type 0
+Fitting block = (j : ℕ) → getD block j 0 < 2 ^ 32
 
 -- ---- data
 

@@ -1,0 +1,69 @@
+-- Every worked example holds of the definitions: the laws turn each into words, and the words are computed. Assumes nothing.
+use Prim.Native.Nat.{ℕ, zero, suc, _+_}
+use mathlib.Core.Bool.{true}
+use mathlib.Core.Path.{_≡_, refl, ap, ap₂, _∙_}
+use mathlib.Core.List.{List, [], _∷_, map}
+use native.Mathlib.Omega.{arith}
+use lib.Bits.{bitXor, bitOr}
+use lib.ListN.{length, set}
+use Rattle.lane.specs.Bit.{bit}
+use Rattle.lane.specs.Rows.{power?, rowsWhere}
+use Rattle.block.specs.declared.Shape.{Shape}
+use Rattle.block.specs.declared.Verdict.{Verdict}
+use Rattle.block.specs.Shape.{before}
+use Rattle.block.specs.Words.{number, listOf, total}
+use Rattle.block.specs.Stores.{stores}
+use Rattle.block.specs.Block.{dataBlock, validBlock, mendedBlock}
+use Rattle.block.specs.Verdict.{verdictOf, verdictNumber, verdictCount}
+use Rattle.block.specs.Inner.{xorOver, sumsOf, anyOf, aboveOf, lostLanes, flippedIn, xorAll, withChecks}
+use Rattle.block.proofs.ByWords.{fit?, bits, written, lost-by-words, mended-by-words}
+use Rattle.demands.specs.Examples.{Example, examples, upTo, mended, lost}
+
+module _ (shape : Shape) where
+  -- a written block, by the words of its data
+  wrote : (list block : List ℕ) → fit? list ≡ true
+      → set (withChecks (sumsOf shape (dataBlock shape list) .digits) (dataBlock shape list)) (before shape)
+      (bitXor (sumsOf shape (dataBlock shape list) .parity) (xorAll 7 (sumsOf shape (dataBlock shape list) .digits)))
+      ≡ block
+      → validBlock shape list ≡ block
+  wrote list block fit e = written shape list fit ∙ e
+
+  said : (found after : List ℕ) (v : Verdict) → (verdictOf shape found ≡ v) × (mendedBlock shape found ≡ after)
+      → _≡_ {A = List ℕ} (verdictNumber (verdictOf shape found) ∷ verdictCount (verdictOf shape found) ∷ mendedBlock shape found)
+      (verdictNumber v ∷ verdictCount v ∷ after)
+  said found after v e = ap₂ (λ (w : Verdict) (l : List ℕ). verdictNumber w ∷ verdictCount w ∷ l) (e .0) (e .1)
+
+  module _ (found : List ℕ) (fit : fit? found ≡ true) (long : length found ≡ 72) where
+    abbrev lostWord : ℕ
+    lostWord = lostLanes (before shape) (sumsOf shape found .parity) (sumsOf shape found .digits)
+
+    -- a lost block, by the word of its lost lanes
+    was-lost : (w n : ℕ) → lostWord ≡ suc w → bits lostWord ≡ n
+        → _≡_ {A = List ℕ} (verdictNumber (verdictOf shape found) ∷ verdictCount (verdictOf shape found) ∷ mendedBlock shape found) (lost ∷ n ∷ found)
+    was-lost w n e c =
+        said found found _ (lost-by-words shape found fit long (λ z. omega (arith, e))) ∙ ap (λ (k : ℕ). lost ∷ k ∷ found) c
+
+    -- a mended block, by the word of its odd lanes
+    was-mended : (n w : ℕ) (after : List ℕ) → lostWord ≡ 0 → bitOr (anyOf 7 (sumsOf shape found .digits)) (sumsOf shape found .parity) ≡ suc w
+        → bits (sumsOf shape found .parity) ≡ n
+        → flippedIn (before shape + 1) (sumsOf shape found .digits) (λ i. bit i (sumsOf shape found .parity)) found ≡ after
+        → _≡_ {A = List ℕ} (verdictNumber (verdictOf shape found) ∷ verdictCount (verdictOf shape found) ∷ mendedBlock shape found) (mended ∷ n ∷ after)
+    was-mended n w after z s c e =
+        said found _ _ (mended-by-words shape found fit long z (λ q. omega (arith, s))) ∙ ap₂ (λ (k : ℕ) (l : List ℕ). mended ∷ k ∷ l) c e
+
+pub all-hold : map (λ (e : Example). e .gives) examples ≡ map (λ (e : Example). e .must) examples
+unfolding examples upTo dataBlock stores listOf number total xorOver anyOf aboveOf flippedIn xorAll withChecks power? rowsWhere bit fit?
+all-hold =
+    ap₂ _∷_ (wrote _ _ _ refl refl)
+    (ap₂ _∷_ (wrote _ _ _ refl refl)
+    (ap₂ _∷_ (wrote _ _ _ refl refl)
+    (ap₂ _∷_ (wrote _ _ _ refl refl)
+    (ap₂ _∷_ (wrote _ _ _ refl refl)
+    (ap₂ _∷_ (was-mended _ _ refl refl 1 _ _ refl refl refl refl)
+    (ap₂ _∷_ (was-mended _ _ refl refl 32 _ _ refl refl refl refl)
+    (ap₂ _∷_ (was-lost _ _ refl refl _ 1 refl refl)
+    (ap₂ _∷_ (was-mended _ _ refl refl 2 _ _ refl refl refl refl)
+    (ap₂ _∷_ (was-lost _ _ refl refl _ 1 refl refl)
+    (ap₂ _∷_ (was-mended _ _ refl refl 1 _ _ refl refl refl refl)
+    (ap₂ _∷_ (was-lost _ _ refl refl _ 1 refl refl)
+    (ap₂ _∷_ refl refl))))))))))))

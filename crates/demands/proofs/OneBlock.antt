@@ -1,0 +1,146 @@
+-- Demand 2 of one block: what it is mended to, and what the verdict says of it. Assumes nothing.
+use Prim.Native.Nat.{ℕ, zero, suc, _≤_, _<_}
+use mathlib.Core.Path.{_≡_, refl, sym, ap, subst, _∙_}
+use mathlib.Core.Bool.{Bool}
+use mathlib.Core.List.{List}
+use native.Mathlib.Omega.{arith}
+use lib.ListN.{length}
+use Rattle.lane.specs.Bit.{bit, _⊕_, pick}
+use Rattle.lane.specs.Lane.{diff}
+use Rattle.lane.specs.Decision.{decide, lost?}
+use Rattle.lane.proofs.Linear.{count-same}
+use Rattle.lane.proofs.Mended.{⊕-self, count-empty, valid-near}
+use Rattle.block.specs.declared.Shape.{Shape}
+use Rattle.block.specs.Shape.{before, rows}
+use Rattle.block.specs.Words.{lane, total}
+use Rattle.block.specs.Block.{ValidBlock, lanesLost, bitsChanged, mendedBlock}
+use Rattle.block.specs.Verdict.{verdictNumber, verdictCount, verdict, verdictOf}
+use Rattle.block.proofs.Lanes.{total-same, total-zero}
+use Rattle.block.specs.Block.{Fitting, Near, SameRows}
+use Rattle.block.proofs.Blocks.{kept-valid, kept-near, near-none, near-rows, mended-fits}
+use Rattle.store.specs.declared.Answer.the-variants.{Found}
+use Rattle.store.proofs.Verdicts.{clean-left}
+use Rattle.demands.specs.Mending.{Meant, Mends}
+
+-- ---- the verdict by the numbers of lanes lost and bits changed
+
+lost-some : (lost changed : ℕ) → verdictNumber (verdict lost changed) ≡ 3 → lost ≡ 0 → ⊥
+lost-some zero zero e z = omega arith
+lost-some zero (suc changed) e z = omega arith
+lost-some (suc lost) changed e z = omega arith
+
+some-lost : (lost changed : ℕ) → (lost ≡ 0 → ⊥) → (verdictNumber (verdict lost changed) ≡ 3) × (verdictCount (verdict lost changed) ≡ lost)
+some-lost zero changed ne = absurd (ne refl)
+some-lost (suc lost) changed ne = (refl, refl)
+
+none-lost : (lost changed : ℕ) → (verdictNumber (verdict lost changed) ≡ 3 → ⊥) → (lost ≡ 0) × (verdictCount (verdict lost changed) ≡ changed)
+none-lost zero zero ne = (refl, refl)
+none-lost zero (suc changed) ne = (refl, refl)
+none-lost (suc lost) changed ne = absurd (ne refl)
+
+clean-none : (lost changed : ℕ) → verdictNumber (verdict lost changed) ≡ 1 → (lost ≡ 0) × (changed ≡ 0)
+clean-none zero zero e = (refl, refl)
+clean-none zero (suc changed) e = absurd (omega arith)
+clean-none (suc lost) changed e = absurd (omega arith)
+
+none-clean : (lost changed : ℕ) → lost ≡ 0 → changed ≡ 0 → verdictNumber (verdict lost changed) ≡ 1
+none-clean zero zero l c = refl
+none-clean zero (suc changed) l c = absurd (omega arith)
+none-clean (suc lost) changed l c = absurd (omega arith)
+
+-- a verdict that is not clean counts something
+counts : (lost changed : ℕ) → lost ≤ 32 → (lost ≡ 0 → changed ≤ 32) → (verdictNumber (verdict lost changed) ≡ 1 → ⊥)
+    → (1 ≤ verdictCount (verdict lost changed)) × (verdictCount (verdict lost changed) ≤ 32)
+counts zero zero l c ne = absurd (ne refl)
+counts zero (suc changed) l c ne = (omega arith, c refl)
+counts (suc lost) changed l c ne = (omega arith, l)
+
+-- ---- a block found
+
+-- a total of n values that are at most 1
+total-few : (n : ℕ) (f : ℕ → ℕ) → ((i : ℕ) → i < n → f i ≤ 1) → total n f ≤ n
+unfolding total
+total-few zero f h = omega arith
+total-few (suc n) f h = omega (arith, total-few n f (λ i l. h i (omega arith)), h n (omega arith))
+
+pick-few : (b : Bool) → pick b 1 ≤ 1
+pick-few Bool.true = omega arith
+pick-few Bool.false = omega arith
+
+few-lost : (shape : Shape) (block : List ℕ) → lanesLost shape block ≤ 32
+unfolding lanesLost
+few-lost shape block = total-few 32 _ (λ i h. pick-few (lost? (decide (before shape) (lane i block))))
+
+few-changed : (shape : Shape) (old new : List ℕ) → Near shape old new → bitsChanged shape old new ≤ 32
+unfolding bitsChanged
+few-changed shape old new near = total-few 32 _ near
+
+-- blocks with the same rows differ in no bit
+same-bits : (shape : Shape) (a b : List ℕ) → SameRows shape b a → bitsChanged shape a b ≡ 0
+unfolding bitsChanged
+same-bits shape a b same =
+    total-same 32 _ (λ i. 0)
+    (λ i h.
+    count-same (rows shape) (diff (lane i a) (lane i b)) (λ p. Bool.false)
+    (λ j l. ap (λ (w : ℕ). lane i a (suc j) ⊕ bit i w) (same j l) ∙ ⊕-self (lane i a (suc j)))
+    ∙ count-empty (rows shape))
+    ∙ total-zero 32
+
+module _ (shape : Shape) (found : List ℕ) (fits : Fitting found) (long : rows shape ≤ length found) where
+  abbrev left : List ℕ
+  left = mendedBlock shape found
+
+  abbrev lost : ℕ
+  lost = lanesLost shape found
+
+  abbrev changed : ℕ
+  changed = bitsChanged shape found left
+
+  left-meant : lost ≡ 0 → Meant shape found left
+  left-meant none = record { words = mended-fits shape found fits; valid = kept-valid shape found long none; near = kept-near shape found long none }
+
+  left-only : (other : List ℕ) → Meant shape found other → SameRows shape left other
+  left-only other m = near-rows shape found long other (m .valid) (m .near) (mended-fits shape found fits) (m .words)
+
+  valid-meant : ValidBlock shape found → Meant shape found found
+  valid-meant v = record { words = fits; valid = v; near = λ i h. valid-near (before shape) (lane i found) (v i h) }
+
+  -- a block that was valid is clean, and a clean one was valid
+  pub clean-same : lost ≡ 0 → changed ≡ 0 → left ≡ found
+  clean-same = clean-left shape found long
+
+  clean-valid : lost ≡ 0 → changed ≡ 0 → ValidBlock shape found
+  clean-valid l c = subst (λ (b : List ℕ). ValidBlock shape b) (clean-same l c) (kept-valid shape found long l)
+
+  pub mends : Mends shape found left (Found (verdictOf shape found))
+  unfolding verdictOf
+  mends =
+      record {
+        mended = λ ne. left-meant (none-lost lost changed ne .0);
+        count = λ ne. none-lost lost changed ne .1;
+        only = λ other m j h. sym (left-only other m j h);
+        lost = (
+          λ says other m. lost-some lost changed says (near-none shape found long other (m .valid) (m .near)),
+          λ none. some-lost lost changed (λ e. none left (left-meant e)) .0,
+        );
+        lanes = λ says. some-lost lost changed (lost-some lost changed says) .1;
+        range = counts lost changed (few-lost shape found) (λ e. few-changed shape found left (left-meant e .near));
+        clean = (
+          λ says. let z = clean-none lost changed says in clean-valid (z .0) (z .1),
+          λ v.
+              none-clean lost changed (near-none shape found long found v (valid-meant v .near)) (same-bits shape found left (left-only found (valid-meant v))),
+        );
+      }
+
+  -- what the verdict says of the block that is left
+  pub lost-same : verdictNumber (verdictOf shape found) ≡ 3 → lost ≡ 0 → ⊥
+  unfolding verdictOf
+  lost-same says = lost-some lost changed says
+
+  pub clean-numbers : verdictNumber (verdictOf shape found) ≡ 1 → (lost ≡ 0) × (changed ≡ 0)
+  unfolding verdictOf
+  clean-numbers says = clean-none lost changed says
+
+  pub kept-numbers : (verdictNumber (verdictOf shape found) ≡ 3 → ⊥) → lost ≡ 0
+  unfolding verdictOf
+  kept-numbers ne = none-lost lost changed ne .0

@@ -1,0 +1,72 @@
+-- Demand 1 holds of write, read and visit. Assumes nothing.
+use Prim.Native.Nat.{ℕ}
+use mathlib.Core.Path.{_≡_, refl, sym, subst, _∙_}
+use mathlib.Core.List.{List, [], _∷_, _++_}
+use lib.Dec.{T}
+use lib.ListN.{length}
+use Rattle.block.specs.Block.{ifZero}
+use Rattle.store.specs.declared.Answer.{Answer}
+use Rattle.store.specs.Answer.{answerNumber, answered}
+use Rattle.store.specs.Reason.{Rule, noShape, badInterleave, badGroups, badLength, noBlock, badList, layoutRules, visitRules, dataRules, FirstOf}
+use Rattle.store.specs.Write.{writeAnswer, writeAfter}
+use Rattle.store.specs.Read.{readAnswer, readBuffer}
+use Rattle.store.specs.Visit.{visitAnswer, visitAfter}
+use Rattle.store.proofs.Answers.{answered-number, answered-refused, refused-kept}
+use Rattle.store.proofs.Ladder.{visit-first, data-first}
+use Rattle.demands.specs.Refusing.{Refusing, VisitNumbers, DataNumbers, DemandOne}
+use Rattle.demands.proofs.FirstRule.{distinct?, given, none-given}
+
+-- a call that answers the first of its rules, and leaves what was lent where it refuses
+module _ (rules : List Rule) (number : ℕ) (inner : Answer) (plain : answerNumber inner ≡ 0) (t : T (distinct? rules)) (first : FirstOf rules number) where
+  counted : answerNumber (answered number inner) ≡ number
+  counted = answered-number number inner plain
+
+  refused : (answerNumber (answered number inner) ≡ 0 → ⊥) → number ≡ 0 → ⊥
+  refused ne e = ne (counted ∙ e)
+
+  pub refusing : (new lent : List ℕ) → Refusing rules (answered number inner) lent (ifZero number new lent)
+  refusing new lent =
+      record {
+        exactly = λ earlier later rule e.
+            rw counted
+            (given earlier later rule number (subst (λ (l : List Rule). T (distinct? l)) (sym e) t) (subst (λ (l : List Rule). FirstOf l number) (sym e) first));
+        accepted = rw counted (none-given rules number t first);
+        bare = λ ne. rw (answered-refused number inner (refused ne)) (refl, refl);
+        unchanged = λ ne. refused-kept number new lent (refused ne);
+      }
+
+module _ (image : List ℕ) (shape s g block : ℕ) where
+  pub write-refuses : (list : List ℕ)
+      → Refusing (dataRules (length image) shape s g block (length list)) (writeAnswer image shape s g block list) image (writeAfter image shape s g block list)
+  unfolding writeAnswer writeAfter
+  write-refuses list = refusing _ _ _ refl tt (data-first (length image) shape s g block (length list)) _ image
+
+  pub read-refuses : (buffer : List ℕ)
+      → Refusing (dataRules (length image) shape s g block (length buffer)) (readAnswer image shape s g block buffer) buffer (readBuffer image shape s g block buffer)
+  unfolding readAnswer readBuffer
+  read-refuses buffer = refusing _ _ _ refl tt (data-first (length image) shape s g block (length buffer)) _ buffer
+
+  pub visit-refuses : Refusing (visitRules (length image) shape s g block) (visitAnswer image shape s g block) image (visitAfter image shape s g block)
+  unfolding visitAnswer visitAfter
+  visit-refuses = refusing _ _ _ refl tt (visit-first (length image) shape s g block) _ image
+
+pub demand-one : DemandOne
+demand-one = record { write = write-refuses; read = read-refuses; visit = visit-refuses }
+
+-- ---- the table line by line
+
+module _ {answer : Answer} {lent left : List ℕ} {len shape s g block : ℕ} where
+  pub visit-numbers : (later : List Rule) → Refusing (visitRules len shape s g block ++ later) answer lent left
+      → VisitNumbers (answerNumber answer) len shape s g block
+  visit-numbers later r =
+      record {
+        one = r .exactly [] _ (noShape shape) refl;
+        two = r .exactly (noShape shape ∷ []) _ (badInterleave s) refl;
+        three = r .exactly (noShape shape ∷ badInterleave s ∷ []) _ (badGroups s g) refl;
+        four = r .exactly (noShape shape ∷ badInterleave s ∷ badGroups s g ∷ []) _ (badLength len shape s g) refl;
+        six = r .exactly (layoutRules len shape s g) _ (noBlock s g block) refl;
+      }
+
+  pub data-numbers : (list : ℕ) → Refusing (dataRules len shape s g block list) answer lent left → DataNumbers (answerNumber answer) len shape s g block list
+  data-numbers list r =
+      record { visited = visit-numbers (badList shape list ∷ []) r; seven = r .exactly (visitRules len shape s g block) _ (badList shape list) refl }

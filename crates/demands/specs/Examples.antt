@@ -1,0 +1,79 @@
+-- The worked examples 1 to 12, as one list: what the definitions give, and what they must give.
+-- Shape 1 unless said; rows not named are zero. Assumes nothing.
+use Prim.Native.Nat.{ℕ, zero, suc, _-_}
+use mathlib.Core.List.{List, [], _∷_, map}
+use lib.ListN.{set, replicate}
+use Rattle.block.specs.declared.Shape.{Shape}
+use Rattle.block.specs.declared.Shape.the-variants.{One, Two}
+use Rattle.block.specs.Block.{blank, validBlock, mendedBlock}
+use Rattle.block.specs.Verdict.{verdictOf, verdictNumber, verdictCount}
+use Rattle.store.specs.Layout.{index}
+
+pub record Example : Type 0 where
+  pub gives : List ℕ
+  pub must : List ℕ
+
+-- a block with the given words in the given rows
+infixl 5 _with_in-rows_
+abbrev pub _with_in-rows_ : List ℕ → ℕ → List ℕ → List ℕ
+block with word in-rows [] = block
+block with word in-rows (p ∷ more) = set block (p - 1) word with word in-rows more
+
+-- data that is zero but for word k, counted from 1
+abbrev pub dataWord : ℕ → ℕ → ℕ → List ℕ
+dataWord words k word = set (replicate words 0) (k - 1) word
+
+-- writing: the block that data becomes
+abbrev pub writes : Shape → List ℕ → List ℕ → Example
+writes shape list block = record { gives = validBlock shape list; must = block }
+
+-- visiting: the verdict's number, its count, and the block after
+abbrev pub visits : Shape → List ℕ → ℕ → ℕ → List ℕ → Example
+visits shape found number count after =
+    record {
+      gives = verdictNumber (verdictOf shape found) ∷ verdictCount (verdictOf shape found) ∷ mendedBlock shape found;
+      must = number ∷ count ∷ after;
+    }
+
+abbrev pub mended : ℕ
+mended = 2
+
+abbrev pub lost : ℕ
+lost = 3
+
+abbrev pub ones : ℕ
+ones = 0xFFFFFFFF
+
+-- rows 1 to n
+unfoldable pub upTo : ℕ → List ℕ
+upTo zero = []
+upTo (suc n) = suc n ∷ upTo n
+
+unfoldable pub examples : List Example
+examples =
+    -- 1: data word 1 = 1: rows 1, 2, 3 and 16 become 1
+    writes One (dataWord 11 1 1) (blank with 1 in-rows (1 ∷ 2 ∷ 3 ∷ 16 ∷ []))
+    -- 2: data word 11 = 80000000 hex: rows 1, 2, 4, 8, 15 and 16 become that
+    ∷ writes One (dataWord 11 11 0x80000000) (blank with 0x80000000 in-rows (1 ∷ 2 ∷ 4 ∷ 8 ∷ 15 ∷ 16 ∷ []))
+    -- 3: all data FFFFFFFF hex: every row becomes that, in both shapes
+    ∷ writes One (replicate 11 ones) (blank with ones in-rows (upTo 16))
+    ∷ writes Two (replicate 64 ones) (blank with ones in-rows (upTo 72))
+    -- 4: shape 2, data word 64 = 1: rows 1, 2, 4, 64, 71 and 72 become 1
+    ∷ writes Two (dataWord 64 64 1) (blank with 1 in-rows (1 ∷ 2 ∷ 4 ∷ 64 ∷ 71 ∷ 72 ∷ []))
+    -- 5: row 5 = 1: mended 1, all zero after
+    ∷ visits One (blank with 1 in-rows (5 ∷ [])) mended 1 blank
+    -- 6: row 16 = FFFFFFFF hex: mended 32, all zero after
+    ∷ visits One (blank with ones in-rows (16 ∷ [])) mended 32 blank
+    -- 7: rows 3 and 5 = 1: lost 1, unchanged
+    ∷ visits One (blank with 1 in-rows (3 ∷ 5 ∷ [])) lost 1 (blank with 1 in-rows (3 ∷ 5 ∷ []))
+    -- 8: row 3 = 1, row 5 = 2: mended 2
+    ∷ visits One (blank with 1 in-rows (3 ∷ []) with 2 in-rows (5 ∷ [])) mended 2 blank
+    -- 9: rows 3 and 5 = 1, row 9 = 2: lost 1; row 9 stays 2
+    ∷ visits One (blank with 1 in-rows (3 ∷ 5 ∷ []) with 2 in-rows (9 ∷ [])) lost 1 (blank with 1 in-rows (3 ∷ 5 ∷ []) with 2 in-rows (9 ∷ []))
+    -- 10: rows 1, 2 and 4 = 1: mended 1; row 7 becomes 1 too
+    ∷ visits One (blank with 1 in-rows (1 ∷ 2 ∷ 4 ∷ [])) mended 1 (blank with 1 in-rows (1 ∷ 2 ∷ 4 ∷ 7 ∷ []))
+    -- 11: shape 2, rows 1, 9 and 64 = 1: sum 72, odd: lost 1
+    ∷ visits Two (blank with 1 in-rows (1 ∷ 9 ∷ 64 ∷ [])) lost 1 (blank with 1 in-rows (1 ∷ 9 ∷ 64 ∷ []))
+    -- 12: shape 2, s = 6, block 7: row 1 at index 433, row 72 at 859
+    ∷ record { gives = index 72 6 7 1 ∷ index 72 6 7 72 ∷ []; must = 433 ∷ 859 ∷ [] }
+    ∷ []

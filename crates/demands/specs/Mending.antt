@@ -1,0 +1,78 @@
+-- Demand 2: a visit leaves the one valid block that differs in at most one bit a lane, and says lost exactly if there is none;
+-- a write stores the one valid block for its data; a read answers as a visit would and gives the mended data. Assumes nothing.
+use Prim.Native.Nat.{ℕ, _≤_}
+use mathlib.Core.Path.{_≡_}
+use mathlib.Core.List.{List}
+use mathlib.Core.Logic.{_↔_}
+use Rattle.block.specs.declared.Shape.{Shape}
+use Rattle.block.specs.Block.{ValidBlock, dataOf, bitsChanged, lanesLost}
+use Rattle.block.specs.Block.{Near, SameRows, Fitting}
+use Rattle.store.specs.declared.Answer.{Answer}
+use Rattle.store.specs.Answer.{answerNumber, answerVerdict, answerCount}
+use Rattle.store.specs.Image.{gathered, Untouched}
+use Rattle.store.specs.Shapes.{shapeOf}
+use Rattle.store.specs.Write.{writeAnswer, writeAfter}
+use Rattle.store.specs.Read.{readAnswer, readBuffer}
+use Rattle.store.specs.Visit.{visitAnswer, visitAfter}
+
+-- what a found block may have been meant to be: a valid block that differs from it in at most one bit a lane
+pub record Meant (shape : Shape) (found meant : List ℕ) : Type 0 where
+  pub words : Fitting meant
+  pub valid : ValidBlock shape meant
+  pub near : Near shape found meant
+
+-- the verdicts are numbered 1 clean, 2 mended, 3 lost
+abbrev pub SaysClean : Answer → Type 0
+SaysClean answer = answerVerdict answer ≡ 1
+
+abbrev pub SaysLost : Answer → Type 0
+SaysLost answer = answerVerdict answer ≡ 3
+
+-- ---- one block, as it was found and as it was left
+
+pub record Mends (shape : Shape) (found left : List ℕ) (answer : Answer) : Type 0 where
+  -- not lost: what is left is the block that was meant, and the count is the bits that differ before and after
+  pub mended : (SaysLost answer → ⊥) → Meant shape found left
+  pub count : (SaysLost answer → ⊥) → answerCount answer ≡ bitsChanged shape found left
+  -- there is never a second one
+  pub only : (other : List ℕ) → Meant shape found other → SameRows shape other left
+  -- lost exactly if there is none; the count is the lanes that are lost
+  pub lost : SaysLost answer ↔ ((other : List ℕ) → Meant shape found other → ⊥)
+  pub lanes : SaysLost answer → answerCount answer ≡ lanesLost shape found
+  -- either count is from 1 to 32
+  pub range : (SaysClean answer → ⊥) → (1 ≤ answerCount answer) × (answerCount answer ≤ 32)
+  -- clean exactly if the block was valid
+  pub clean : SaysClean answer ↔ ValidBlock shape found
+
+-- ---- the three calls, accepted
+
+pub record Visiting (image : List ℕ) (shape s block : ℕ) (answer : Answer) (after : List ℕ) : Type 0 where
+  pub mends : Mends (shapeOf shape) (gathered (shapeOf shape) s block image) (gathered (shapeOf shape) s block after) answer
+  -- not one word is altered but where the block is mended, and no other block's words then
+  pub lost-unaltered : SaysLost answer → after ≡ image
+  pub clean-unaltered : SaysClean answer → after ≡ image
+  pub untouched : Untouched (shapeOf shape) s block image after
+
+pub record Writing (image : List ℕ) (shape s block : ℕ) (list after : List ℕ) : Type 0 where
+  pub valid : ValidBlock (shapeOf shape) (gathered (shapeOf shape) s block after)
+  pub holds : dataOf (shapeOf shape) (gathered (shapeOf shape) s block after) ≡ list
+  pub only : (other : List ℕ) → Fitting other → ValidBlock (shapeOf shape) other → dataOf (shapeOf shape) other ≡ list
+      → SameRows (shapeOf shape) other (gathered (shapeOf shape) s block after)
+  pub untouched : Untouched (shapeOf shape) s block image after
+
+-- with what a visit of the same block would answer and leave
+pub record Reading (shape s block : ℕ) (buffer : List ℕ) (answer : Answer) (filled : List ℕ) (visited : Answer) (after : List ℕ) : Type 0 where
+  pub same : answer ≡ visited
+  pub mended : (SaysLost answer → ⊥) → filled ≡ dataOf (shapeOf shape) (gathered (shapeOf shape) s block after)
+  pub stays : SaysLost answer → filled ≡ buffer
+
+-- the demand: of every image of 32-bit words and every block, where the call is accepted
+pub record DemandTwo : Type 0 where
+  pub visit : (image : List ℕ) (shape s g block : ℕ) → Fitting image → answerNumber (visitAnswer image shape s g block) ≡ 0
+      → Visiting image shape s block (visitAnswer image shape s g block) (visitAfter image shape s g block)
+  pub write : (image : List ℕ) (shape s g block : ℕ) (list : List ℕ) → Fitting list → answerNumber (writeAnswer image shape s g block list) ≡ 0
+      → Writing image shape s block list (writeAfter image shape s g block list)
+  pub read : (image : List ℕ) (shape s g block : ℕ) (buffer : List ℕ) → Fitting image → answerNumber (readAnswer image shape s g block buffer) ≡ 0
+      → Reading shape s block buffer (readAnswer image shape s g block buffer) (readBuffer image shape s g block buffer)
+      (visitAnswer image shape s g block)
+      (visitAfter image shape s g block)

@@ -1,0 +1,13 @@
+pub mod Waiting
+pub mod Places
+pub mod Plans
+pub mod Entries
+pub mod Numbers
+pub mod Ranges
+pub mod Runs
+pub mod Serve
+pub mod Round
+pub mod Hold
+pub mod Patrol
+pub mod Spacing
+pub mod Triple

@@ -1,0 +1,131 @@
+-- The record runs as its plan does: from a sound plan, whatever the steps, it is the record of the plan. Assumes nothing.
+use Prim.Native.Nat.{ℕ, zero, suc, _+_, _-_, _≤_}
+use mathlib.Core.Bool.{true}
+use mathlib.Core.Path.{_≡_, refl, ap, _∙_}
+use mathlib.Core.List.{List, [], _∷_, _++_}
+use native.Mathlib.Omega.{arith}
+use lib.ListN.{length, take, replicate}
+use lib.Seq.{take-append-seam, drop-append-seam}
+use borrow.Author.Tests.{lt-ltb, le-leb}
+use Rattle.rota.specs.Ladder.{unlessRefused}
+use Rattle.rota.specs.Plan.{Plan, start}
+use Rattle.rota.specs.Asking.{askRefusal, askPlace, joined}
+use Rattle.rota.specs.Turning.{due, turnAfter}
+use Rattle.rota.specs.Record.{unbroken, rotaOf, askNumber, asked, turnNumber, turned}
+use Rattle.rota.specs.Steps.{Step, ask, turn, other, turns, rotaStep, rotaRun, rotaAt, dueAt}
+use Rattle.rota.specs.declared.Rota.{Rota}
+use Rattle.rota.specs.declared.Place.{Place}
+use Rattle.rota.specs.declared.Place.the-variants.{Given, Refused as NoPlace}
+use Rattle.rota.specs.declared.Asked.{Asked}
+use Rattle.rota.specs.declared.Turned.{Turned}
+use Rattle.rota.proofs.Places.{replicate-zeros}
+use Rattle.rota.proofs.Plans.{Sound, start-sound, ask-sound, turn-sound, askAfter}
+
+-- ---- one call
+
+module _ (n : ℕ) (p : Plan) (s : Sound n p) where
+  list-same : take (length (p .asks)) (p .asks ++ replicate (16 - length (p .asks)) 0) ≡ p .asks
+  list-same = take-append-seam (p .asks) (replicate (16 - length (p .asks)) 0)
+
+  rota-unbroken : unbroken n (rotaOf p) ≡ true
+  unfolding unbroken
+  rota-unbroken =
+      rw (
+        lt-ltb (p .next) n (s .inside),
+        le-leb (length (p .asks)) 16 (s .few),
+        list-same,
+        drop-append-seam (p .asks) (replicate (16 - length (p .asks)) 0),
+        s .low,
+        s .once,
+      )
+      (replicate-zeros (16 - length (p .asks)))
+
+  pub asked-is : (b : ℕ)
+      → asked n (rotaOf p) b
+      ≡ unlessRefused (askRefusal n p b) (record { place = Given (askPlace p b); rota = rotaOf (joined p b) }) (record { place = NoPlace (askRefusal n p b); rota = rotaOf p })
+  unfolding asked askNumber
+  asked-is b = rw (rota-unbroken, list-same)
+
+  pub turned-is : turned n (rotaOf p) ≡ record { due = due p; rota = rotaOf (turnAfter n p) }
+  unfolding turned turnNumber
+  turned-is = rw (rota-unbroken, list-same)
+
+  asked-rota : (b : ℕ) → asked n (rotaOf p) b .rota ≡ rotaOf (askAfter n p b)
+  unfolding askAfter
+  asked-rota b = ap (λ (a : Asked). a .rota) (asked-is b) ∙ go (askRefusal n p b) (NoPlace (askRefusal n p b))
+    where
+      go : (v : ℕ) (a : Place)
+          → unlessRefused {A = Asked} v (record { place = Given (askPlace p b); rota = rotaOf (joined p b) }) (record { place = a; rota = rotaOf p }) .rota
+          ≡ rotaOf (unlessRefused v (joined p b) p)
+      go zero a = refl
+      go (suc v) a = refl
+
+  -- an ask that is given a place is not refused, and the place is the plan's
+  pub asked-given : (b k : ℕ) → asked n (rotaOf p) b .place ≡ Given k → (askRefusal n p b ≡ 0) × (askPlace p b ≡ k)
+  asked-given b k e = go (askRefusal n p b) refl (rw asked-is at e)
+    where
+      go : (v : ℕ) → askRefusal n p b ≡ v
+          → unlessRefused {A = Asked} v (record { place = Given (askPlace p b); rota = rotaOf (joined p b) }) (record { place = NoPlace v; rota = rotaOf p }) .place ≡ Given k
+          → (askRefusal n p b ≡ 0) × (askPlace p b ≡ k)
+      go zero z e = (z, cc)
+      go (suc v) z e = let w : _≡_ {A = ℕ} 0 1 = cc in absurd (omega arith)
+
+-- ---- a list of steps
+
+module _ {Other : Type 0} where
+  pub turns-append : (l k : List (Step Other)) → turns (l ++ k) ≡ turns l + turns k
+  unfolding turns
+  turns-append [] k = omega arith
+  turns-append (ask b ∷ l) k = turns-append l k
+  turns-append (turn ∷ l) k = omega (arith, turns-append l k)
+  turns-append (other x ∷ l) k = turns-append l k
+
+  module _ (n : ℕ) where
+    abbrev pub planStep : Step Other → Plan → Plan
+    planStep (ask b) p = askAfter n p b
+    planStep turn p = turnAfter n p
+    planStep (other x) p = p
+
+    unfoldable pub planRun : List (Step Other) → Plan → Plan
+    planRun [] p = p
+    planRun (x ∷ l) p = planRun l (planStep x p)
+
+    pub plan-append : (l k : List (Step Other)) (p : Plan) → planRun (l ++ k) p ≡ planRun k (planRun l p)
+    unfolding planRun
+    plan-append [] k p = refl
+    plan-append (x ∷ l) k p = plan-append l k (planStep x p)
+
+    pub step-sound : (x : Step Other) (p : Plan) → Sound n p → Sound n (planStep x p)
+    step-sound (ask b) p s = ask-sound n p b s
+    step-sound turn p s = turn-sound n p s
+    step-sound (other x) p s = s
+
+    pub run-sound : (l : List (Step Other)) (p : Plan) → Sound n p → Sound n (planRun l p)
+    unfolding planRun
+    run-sound [] p s = s
+    run-sound (x ∷ l) p s = run-sound l (planStep x p) (step-sound x p s)
+
+    pub step-runs : (x : Step Other) (p : Plan) → Sound n p → rotaStep n x (rotaOf p) ≡ rotaOf (planStep x p)
+    step-runs (ask b) p s = asked-rota n p s b
+    step-runs turn p s = ap (λ (t : Turned). t .rota) (turned-is n p s)
+    step-runs (other x) p s = refl
+
+    pub run-runs : (l : List (Step Other)) (p : Plan) → Sound n p → rotaRun n l (rotaOf p) ≡ rotaOf (planRun l p)
+    unfolding rotaRun planRun
+    run-runs [] p s = refl
+    run-runs (x ∷ l) p s = ap (rotaRun n l) (step-runs x p s) ∙ run-runs l (planStep x p) (step-sound x p s)
+
+    -- ---- from the fresh record
+
+    abbrev pub planAt : List (Step Other) → Plan
+    planAt l = planRun l start
+
+    module _ (some : 1 ≤ n) where
+      pub plan-sound : (l : List (Step Other)) → Sound n (planAt l)
+      plan-sound l = run-sound l start (start-sound n some)
+
+      pub rota-runs : (l : List (Step Other)) → rotaAt n l ≡ rotaOf (planAt l)
+      rota-runs l = run-runs l start (start-sound n some)
+
+      pub due-runs : (l : List (Step Other)) → dueAt n l ≡ due (planAt l)
+      due-runs l = ap (λ (r : Rota). turned n r .due) (rota-runs l) ∙ ap (λ (t : Turned). t .due) (turned-is n (planAt l) (plan-sound l))

@@ -1,0 +1,81 @@
+-- `in_order` meets its contract: the blocks passed are below n, and no two are the same. Assumes nothing.
+use Prim.Native.Nat.{_≤_, _-_}
+use mathlib.Core.Bool.{true, _&&_}
+use mathlib.Core.Path.{_≡_, refl, sym, ap₂, _∙_}
+use native.Mathlib.Omega.{arith}
+use borrow.Author.Needs.{needs}
+use lib.ListN.{length, take}
+use Rattle.rota.specs.Waiting.{below, apart}
+use Rattle.rota.proofs.Places.{below-fails, apart-fails, below-next, apart-next}
+use Rattle.rota.proofs.in_order.Statement.{statement}
+use Rattle.rota.proofs.in_order.Tie as tie
+
+abbrev Inv-loop : tie.InvT-loop
+Inv-loop count n asks i₀ i = (i ≤ count) × (below n (take i asks) ≡ true) × (apart (take i asks) ≡ true)
+
+abbrev μ-loop : tie.MeasureT-loop
+μ-loop count n asks i₀ i = count - i
+
+long : (c : tie.Start Inv-loop μ-loop) → length (c .args .t1) ≡ 16
+long c = search needs
+
+loop-holds : tie.Need-loop-holds Inv-loop μ-loop
+unfolding below apart
+loop-holds c = (omega arith, refl, refl)
+
+mul-block : tie.Need-mul-block Inv-loop μ-loop
+mul-block c = search needs
+
+array-read-block : tie.Need-array-read-block Inv-loop μ-loop
+array-read-block c = search needs
+
+returns : tie.Need-returns Inv-loop μ-loop
+returns c =
+    let l = long (c .before .before .before) in
+    below-fails _ _ (c .before .before .loop .i) _ (c .before .loop-test .taken) (omega arith) (c .if1 .taken)
+
+place-of-requires : tie.Need-place-of-requires Inv-loop μ-loop
+place-of-requires c κs = search needs
+
+returns-2 : tie.Need-returns-2 Inv-loop μ-loop
+returns-2 c =
+    let l = long (c .before .before .before .before .before) in
+    apart-fails _ _ (c .before .before .before .before .loop .i) _ (c .before .before .before .loop-test .taken) (omega arith)
+    (λ z. c .if2 .taken (c .before .place-of .ensures ∙ z))
+
+add-i : tie.Need-add-i Inv-loop μ-loop
+add-i c = search needs
+
+loop-less : tie.Need-loop-less Inv-loop μ-loop
+loop-less c = search needs
+
+loop-again : tie.Need-loop-again Inv-loop μ-loop
+loop-again c =
+    let l = long (c .before .before .before .before .before) in
+    let at = c .before .before .before .before .loop in (
+      omega arith,
+      below-next _ _ (at .i) (omega arith) (at .inv .1) (c .before .before .if1 .left),
+      apart-next _ (at .i) (omega arith) (at .inv .2) (sym (c .before .place-of .ensures) ∙ c .if2 .left),
+    )
+
+returns-3 : tie.Need-returns-3 Inv-loop μ-loop
+returns-3 c =
+    let e : c .before .loop .i ≡ c .before .before .args .count = omega arith in
+    rw (← e) (sym (ap₂ _&&_ (c .before .loop .inv .1) (c .before .loop .inv .2)))
+
+pub in-order-spec : {M : Type 1} → statement M
+in-order-spec =
+    tie.close
+    (tie.spec
+    Inv-loop
+    μ-loop
+    loop-holds
+    mul-block
+    array-read-block
+    returns
+    place-of-requires
+    returns-2
+    add-i
+    loop-less
+    loop-again
+    returns-3)

@@ -1,0 +1,69 @@
+-- `place_of` meets its contract: the block is not among the places passed. Assumes nothing.
+use Prim.Native.Nat.{_≤_, _-_}
+use mathlib.Core.Path.{_≡_, refl, sym}
+use native.Mathlib.Omega.{arith}
+use borrow.Author.Needs.{needs}
+use lib.ListN.{length, take}
+use Rattle.rota.specs.Waiting.{place}
+use Rattle.rota.proofs.Places.{place-hit, place-next}
+use Rattle.rota.proofs.place_of.Statement.{statement}
+use Rattle.rota.proofs.place_of.Tie as tie
+
+abbrev Inv-loop : tie.InvT-loop
+Inv-loop count block asks i₀ i = (i ≤ count) × (place block (take i asks) ≡ 0)
+
+abbrev μ-loop : tie.MeasureT-loop
+μ-loop count block asks i₀ i = count - i
+
+long : (c : tie.Start Inv-loop μ-loop) → length (c .args .t1) ≡ 16
+long c = search needs
+
+loop-holds : tie.Need-loop-holds Inv-loop μ-loop
+unfolding place
+loop-holds c = (omega arith, refl)
+
+mul-if1 : tie.Need-mul-if1 Inv-loop μ-loop
+mul-if1 c = search needs
+
+array-read-if1 : tie.Need-array-read-if1 Inv-loop μ-loop
+array-read-if1 c = search needs
+
+add-result : tie.Need-add-result Inv-loop μ-loop
+add-result c = search needs
+
+returns : tie.Need-returns Inv-loop μ-loop
+returns c =
+    let l = long (c .before .before .before) in
+    place-hit _ _ (c .before .before .loop .i) _ (c .before .loop-test .taken) (omega arith) (c .before .before .loop .inv .1) (c .if1 .taken)
+
+add-i : tie.Need-add-i Inv-loop μ-loop
+add-i c = search needs
+
+loop-less : tie.Need-loop-less Inv-loop μ-loop
+loop-less c = search needs
+
+loop-again : tie.Need-loop-again Inv-loop μ-loop
+loop-again c =
+    let l = long (c .before .before .before) in
+    (omega arith, place-next _ _ (c .before .before .loop .i) (omega arith) (c .before .before .loop .inv .1) (c .if1 .left))
+
+returns-2 : tie.Need-returns-2 Inv-loop μ-loop
+returns-2 c =
+    let e : c .before .loop .i ≡ c .before .before .args .count = omega arith in
+    rw (← e) (sym (c .before .loop .inv .1))
+
+pub place-of-spec : {M : Type 1} → statement M
+place-of-spec =
+    tie.close
+    (tie.spec
+    Inv-loop
+    μ-loop
+    loop-holds
+    mul-if1
+    array-read-if1
+    add-result
+    returns
+    add-i
+    loop-less
+    loop-again
+    returns-2)

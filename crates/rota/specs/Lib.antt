@@ -1,0 +1,11 @@
+pub mod Ladder
+pub mod Waiting
+pub mod Plan
+pub mod Asking
+pub mod Turning
+pub mod Record
+pub mod Numbers
+pub mod Steps
+pub mod Touches
+pub mod Memory
+pub mod Patrol

@@ -1,0 +1,61 @@
+-- A row's index is in range, and one to one over block and row: the group, the row and the place are its digits. Assumes nothing.
+use Prim.Native.Nat.{ℕ, zero, suc, _+_, _-_, _*_, _/_, _%_, _≤_, _<_}
+use mathlib.Core.Path.{_≡_, refl, sym, ap, _∙_}
+use native.Mathlib.Nat.{add-mul, zero-mul, mul-comm, mul-right-comm, mod-lt, div-add-mod', div-lt-iff-lt-mul}
+use native.Mathlib.Omega.{arith}
+use lib.Arith.{digits-lt, digits-div, digits-mod}
+use Rattle.store.specs.Layout.{blocks, index}
+
+-- the first row, and the others a stride apart
+pub first-row : (rows s block : ℕ) → (block - block % s) * rows + block % s ≡ index rows s block 1
+first-row rows s block =
+    let e : block - block % s ≡ block / s * s = omega (arith, div-add-mod' block s) in
+    omega (arith, ap (λ (n : ℕ). n * rows) e, mul-right-comm (block / s) s rows, zero-mul s)
+
+row-up : (k s : ℕ) → (suc k - 1) * s ≡ k * s
+row-up k s = let e : suc k - 1 ≡ k = omega arith in ap (λ (n : ℕ). n * s) e
+
+pub stride : (rows s block k : ℕ) → index rows s block (suc k) ≡ index rows s block 1 + k * s
+stride rows s block k = omega (arith, zero-mul s, row-up k s)
+
+module _ (rows s : ℕ) (first : 1 ≤ s) where
+  -- an index as a number of three digits: the group, the row, the place
+  digits : (block k : ℕ) → index rows s block (suc k) ≡ (block / s * rows + k) * s + block % s
+  digits block k = omega (arith, add-mul (block / s * rows) k s, row-up k s)
+
+  place-of : (block k : ℕ) → index rows s block (suc k) % s ≡ block % s
+  place-of block k = rw (digits block k) (digits-mod (block / s * rows + k) (mod-lt block first))
+
+  line-of : (block k : ℕ) → index rows s block (suc k) / s ≡ block / s * rows + k
+  line-of block k = rw (digits block k) (digits-div (block / s * rows + k) (mod-lt block first))
+
+  -- the block of an index, and the row
+  block-of : (block k : ℕ) → k < rows → index rows s block (suc k) / s / rows * s + index rows s block (suc k) % s ≡ block
+  block-of block k h = rw (line-of block k, place-of block k, digits-div (block / s) h) (div-add-mod' block s)
+
+  row-of : (block k : ℕ) → k < rows → index rows s block (suc k) / s % rows ≡ k
+  row-of block k h = rw (line-of block k) (digits-mod (block / s) h)
+
+  pub one-to-one : (a p b q : ℕ) → 1 ≤ p → p ≤ rows → 1 ≤ q → q ≤ rows
+      → index rows s a p ≡ index rows s b q → (a ≡ b) × (p ≡ q)
+  one-to-one a zero b q l h m i e = absurd (omega arith)
+  one-to-one a (suc j) b zero l h m i e = absurd (omega arith)
+  one-to-one a (suc j) b (suc k) l h m i e = (
+    sym (block-of a j h) ∙ ap (λ (x : ℕ). x / s / rows * s + x % s) e ∙ block-of b k i,
+    ap suc (sym (row-of a j h) ∙ ap (λ (x : ℕ). x / s % rows) e ∙ row-of b k i),
+  )
+
+  pub in-range : (g block p : ℕ) → block < blocks s g → 1 ≤ p → p ≤ rows → index rows s block p < rows * blocks s g
+  in-range g block zero inside l h = absurd (omega arith)
+  in-range g block (suc k) inside l h =
+      omega (
+        arith,
+        digits block k,
+        digits-lt (digits-lt (div-lt-iff-lt-mul first .1 inside) h) (mod-lt block first),
+        mul-right-comm g rows s,
+        mul-comm rows (g * s),
+      )
+
+-- shape 2, s = 6, block 7: row 1 at index 433, row 72 at 859
+pub seventh-of-six : (index 72 6 7 1 ≡ 433) × (index 72 6 7 72 ≡ 859)
+seventh-of-six = (refl, refl)

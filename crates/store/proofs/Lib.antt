@@ -1,0 +1,10 @@
+mod Tests
+pub mod Shapes
+pub mod Ladder
+pub mod Index
+pub mod Image
+pub mod Located
+pub mod Answers
+pub mod Verdicts
+mod Calls
+pub mod After

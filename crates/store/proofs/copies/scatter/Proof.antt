@@ -1,0 +1,42 @@
+-- `store::copies::scatter` meets its contract, shape by shape. Assumes nothing.
+use borrow.Author.Needs.{needs}
+use native.Mathlib.Omega.{arith}
+use Rattle.store.proofs.copies.scatter.Statement.{statement}
+use Rattle.store.proofs.copies.scatter.Tie as tie
+
+enum-told : tie.Need-enum-told
+enum-told c = search needs
+
+put-rows-requires : tie.Need-put-rows-requires
+put-rows-requires c κs = (omega arith, rw (c .before .enum-told .given .1) at (c .before .before .before .before .pre))
+
+enum-told-2 : tie.Need-enum-told-2
+enum-told-2 c = search needs
+
+put-rows-requires-2 : tie.Need-put-rows-requires-2
+put-rows-requires-2 c κs = (omega arith, rw (c .before .enum-told2 .given .1) at (c .before .before .before .before .pre))
+
+same-length : tie.Need-same-length
+same-length c = search needs
+
+returns : tie.Need-returns
+returns c = rw (c .before .before .before .before .enum-told .given .1) (c .before .before .put-rows .ensures)
+
+same-length-2 : tie.Need-same-length-2
+same-length-2 c = search needs
+
+returns-2 : tie.Need-returns-2
+returns-2 c = rw (c .before .before .before .before .enum-told2 .given .1) (c .before .before .put-rows2 .ensures)
+
+pub scatter-spec : {M : Type 1} → statement M
+scatter-spec =
+    tie.close
+    (tie.spec
+    enum-told
+    put-rows-requires
+    enum-told-2
+    put-rows-requires-2
+    same-length
+    returns
+    same-length-2
+    returns-2)

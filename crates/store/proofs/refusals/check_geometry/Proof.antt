@@ -1,0 +1,52 @@
+-- `store::refusals::check_geometry` meets its contract, rung by rung. Assumes nothing.
+use borrow.Author.Needs.{needs}
+use Prim.Native.Nat.{_<_}
+use native.Mathlib.Omega.{arith}
+use Rattle.store.proofs.Tests.{tests}
+use Rattle.store.specs.Refusal.{geometryRefusal}
+use Rattle.store.proofs.refusals.check_geometry.Statement.{statement}
+use Rattle.store.proofs.refusals.check_geometry.Tie as tie
+
+returns : tie.Need-returns
+unfolding geometryRefusal
+returns c = search tests
+
+returns-2 : tie.Need-returns-2
+unfolding geometryRefusal
+returns-2 c = search tests
+
+returns-3 : tie.Need-returns-3
+unfolding geometryRefusal
+returns-3 c = search tests
+
+returns-4 : tie.Need-returns-4
+unfolding geometryRefusal
+returns-4 c = search tests
+
+returns-5 : tie.Need-returns-5
+unfolding geometryRefusal
+returns-5 c = search tests
+
+blocks-in-requires : tie.Need-blocks-in-requires
+blocks-in-requires c κs = search needs
+
+returns-6 : tie.Need-returns-6
+unfolding geometryRefusal
+returns-6 c = rw (← c .before .blocks-in .ensures) (search tests)
+
+returns-7 : tie.Need-returns-7
+unfolding geometryRefusal
+returns-7 c = let h : c .before .blocks-in .result < 4097 = omega arith in rw (← c .before .blocks-in .ensures) (search tests)
+
+pub check-geometry-spec : {M : Type 1} → statement M
+check-geometry-spec =
+    tie.close
+    (tie.spec
+    returns
+    returns-2
+    returns-3
+    returns-4
+    returns-5
+    blocks-in-requires
+    returns-6
+    returns-7)

@@ -1,0 +1,10 @@
+pub mod Layout
+pub mod Shapes
+pub mod Refusal
+pub mod Reason
+pub mod Image
+pub mod Answer
+pub mod Write
+pub mod Read
+pub mod Visit
+pub mod Inner

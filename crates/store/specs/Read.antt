@@ -1,0 +1,36 @@
+-- Read copies the mended data to a lent buffer. It says clean, mended or lost as a visit would. If lost, the buffer stays as it was. Assumes nothing.
+use Prim.Native.Nat.{ℕ}
+use mathlib.Core.Path.{_≡_}
+use mathlib.Core.List.{List}
+use lib.ListN.{length}
+use Rattle.block.specs.declared.Shape.{Shape}
+use Rattle.block.specs.Block.{ifZero, lanesLost, mendedBlock, dataOf}
+use Rattle.block.specs.Verdict.{verdictOf}
+use Rattle.store.specs.declared.Answer.{Answer}
+use Rattle.store.specs.declared.Answer.the-variants.{Found}
+use Rattle.store.specs.Answer.{answered}
+use Rattle.store.specs.Image.{gathered}
+use Rattle.store.specs.Refusal.{dataRefusal}
+use Rattle.store.specs.Shapes.{shapeOf}
+
+-- the mended data of a gathered block; the buffer as it was where a lane is lost
+unfoldable pub mendedData : Shape → List ℕ → List ℕ → List ℕ
+mendedData shape block buffer = ifZero (lanesLost shape block) (dataOf shape (mendedBlock shape block)) buffer
+
+-- what read answers
+unfoldable pub readAnswer : List ℕ → ℕ → ℕ → ℕ → ℕ → List ℕ → Answer
+readAnswer image shape s g block buffer =
+    answered (dataRefusal (length image) shape s g block (length buffer))
+    (Found (verdictOf (shapeOf shape) (gathered (shapeOf shape) s block image)))
+
+-- the buffer that read leaves
+unfoldable pub readBuffer : List ℕ → ℕ → ℕ → ℕ → ℕ → List ℕ → List ℕ
+readBuffer image shape s g block buffer =
+    ifZero (dataRefusal (length image) shape s g block (length buffer))
+    (mendedData (shapeOf shape) (gathered (shapeOf shape) s block image) buffer)
+    buffer
+
+-- the promise of read: what it answers, and the buffer that it leaves
+pub record Reads (image : List ℕ) (shape s g block : ℕ) (buffer : List ℕ) (answer : Answer) (after : List ℕ) : Type 0 where
+  pub answers : answer ≡ readAnswer image shape s g block buffer
+  pub leaves : after ≡ readBuffer image shape s g block buffer

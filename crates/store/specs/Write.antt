@@ -1,0 +1,28 @@
+-- Write stores the valid block for a lent list of data words, and touches no other block's words. Assumes nothing.
+use Prim.Native.Nat.{ℕ}
+use mathlib.Core.Path.{_≡_}
+use mathlib.Core.List.{List}
+use lib.ListN.{length}
+use Rattle.block.specs.Block.{ifZero, validBlock}
+use Rattle.store.specs.declared.Answer.{Answer}
+use Rattle.store.specs.declared.Answer.the-variants.{Stored}
+use Rattle.store.specs.Answer.{answered}
+use Rattle.store.specs.Image.{placed}
+use Rattle.store.specs.Refusal.{dataRefusal}
+use Rattle.store.specs.Shapes.{shapeOf}
+
+-- what write answers
+unfoldable pub writeAnswer : List ℕ → ℕ → ℕ → ℕ → ℕ → List ℕ → Answer
+writeAnswer image shape s g block list = answered (dataRefusal (length image) shape s g block (length list)) Stored
+
+-- the image that write leaves
+unfoldable pub writeAfter : List ℕ → ℕ → ℕ → ℕ → ℕ → List ℕ → List ℕ
+writeAfter image shape s g block list =
+    ifZero (dataRefusal (length image) shape s g block (length list))
+    (placed (shapeOf shape) s block (validBlock (shapeOf shape) list) image)
+    image
+
+-- the promise of write: what it answers, and the image that it leaves
+pub record Writes (image : List ℕ) (shape s g block : ℕ) (list : List ℕ) (answer : Answer) (after : List ℕ) : Type 0 where
+  pub answers : answer ≡ writeAnswer image shape s g block list
+  pub leaves : after ≡ writeAfter image shape s g block list

@@ -1,0 +1,53 @@
+// A block's rows between the image and an array: gathered, and scattered.
+ghost use mathlib.Core.Path.{_≡_};
+ghost use Prim.Native.Nat.{_≤_};
+ghost use lib.ListN.{length};
+ghost use Rattle.block.specs.Shape.{rows};
+ghost use Rattle.store.specs.Inner.{Inside, strideRead, strideWrite};
+use block::Shape;
+
+// The words at `at`, `at + s`, `at + 2 s`, .., `rows` of them, into the first of the block.
+fn take_rows(image: &[u32], rows: usize, at: usize, s: usize, block: &mut [u32; 72])
+    requires { ⌜ (rows ≤ 72) × Inside (length (now image)) rows at s ⌝ }
+    ensures { λ r. ⌜ now (block .exit) ≡ strideRead (now (image .entry)) at s (now (block .entry)) rows ⌝ }
+{
+    let mut i = at;
+    for k in 0..rows {
+        block[k] = image[i];
+        i += s;
+    }
+}
+
+// The first `rows` words of the block at `at`, `at + s`, `at + 2 s`, ..
+fn put_rows(image: &mut [u32], rows: usize, at: usize, s: usize, block: &[u32; 72])
+    requires { ⌜ (rows ≤ 72) × Inside (length (now image)) rows at s ⌝ }
+    ensures { λ r. ⌜ now (image .exit) ≡ strideWrite (now (image .entry)) at s (now (block .entry)) rows ⌝ }
+{
+    let mut i = at;
+    for k in 0..rows {
+        image[i] = block[k];
+        i += s;
+    }
+}
+
+// The rows of the block whose first row is at `at`, into the first of the block.
+pub(crate) fn gather(image: &[u32], shape: Shape, at: usize, s: usize, block: &mut [u32; 72])
+    requires { ⌜ Inside (length (now image)) (rows shape) at s ⌝ }
+    ensures { λ r. ⌜ now (block .exit) ≡ strideRead (now (image .entry)) at s (now (block .entry)) (rows shape) ⌝ }
+{
+    match shape {
+        Shape::One => take_rows(image, 16, at, s, block),
+        Shape::Two => take_rows(image, 72, at, s, block),
+    }
+}
+
+// The block put where its first row is at `at`.
+pub(crate) fn scatter(image: &mut [u32], shape: Shape, at: usize, s: usize, block: &[u32; 72])
+    requires { ⌜ Inside (length (now image)) (rows shape) at s ⌝ }
+    ensures { λ r. ⌜ now (image .exit) ≡ strideWrite (now (image .entry)) at s (now (block .entry)) (rows shape) ⌝ }
+{
+    match shape {
+        Shape::One => put_rows(image, 16, at, s, block),
+        Shape::Two => put_rows(image, 72, at, s, block),
+    }
+}
