@@ -1,0 +1,82 @@
+-- A flip changes one bit of one word and no other; the image keeps its length, and its words stay words. Assumes nothing.
+use Prim.Native.Nat.{ℕ, zero, suc, _^_, _≤_, _<_}
+use mathlib.Core.Bool.{Bool, true, false, cond}
+use mathlib.Core.Path.{_≡_, refl, sym, ap, _∙_}
+use mathlib.Core.List.{List}
+use mathlib.Core.Logic.{⊎-elim, by-cases}
+use native.Mathlib.Decide.{ℕ-discrete}
+use native.Mathlib.Omega.{arith}
+use lib.Bits.{bitXor, xor-lt}
+use lib.Dec.{ltb}
+use lib.ListN.{length, getD, set, length-set}
+use lib.Pow.{pow-lt}
+use lib.Seq.{set-out, getD-set-same, getD-set-other}
+use borrow.Author.Tests.{ltb-true}
+use Rattle.lane.specs.Bit.{bit, _⊕_, pick}
+use Rattle.lane.specs.Lane.{Lane, count}
+use Rattle.lane.proofs.Bits.{bit-xor, ⊕-zero}
+use Rattle.lane.proofs.Linear.{count-same}
+use Rattle.lane.proofs.Mended.{count-empty}
+use Rattle.lane.proofs.Rows.{power-apart, split-below}
+use Rattle.block.specs.Stores.{stores, stores-all}
+use Rattle.block.specs.Block.{Fitting}
+use Rattle.demands.specs.Steps.{flipped}
+
+module _ (at place : ℕ) (image : List ℕ) where
+  -- the word at the index, with the bit changed
+  abbrev changed : ℕ
+  changed = bitXor (getD image at 0) (2 ^ place)
+
+  pub length-flipped : length (flipped at place image) ≡ length image
+  unfolding flipped
+  length-flipped = go (ltb place 32)
+    where
+      go : (t : Bool) → length (cond t (set image at changed) image) ≡ length image
+      go true = length-set image at changed
+      go false = refl
+
+  pub flipped-words : Fitting image → Fitting (flipped at place image)
+  unfolding flipped stores
+  flipped-words fit = go (ltb place 32) refl
+    where
+      go : (t : Bool) → ltb place 32 ≡ t → Fitting (cond t (set image at changed) image)
+      go true e =
+          stores-all (λ w. w < 2 ^ 32) image (λ k. at) (λ k. changed) 1 fit
+          (λ k h. xor-lt 32 (getD image at 0) (2 ^ place) (fit at) (pow-lt {i = place} {j = 32} (ltb-true place 32 e)))
+      go false e = fit
+
+  -- every other bit is as it was
+  pub other-bit : (i j : ℕ) → (i ≡ at → j ≡ place → ⊥) → bit j (getD (flipped at place image) i 0) ≡ bit j (getD image i 0)
+  unfolding flipped
+  other-bit i j ne = go (ltb place 32)
+    where
+      same : i ≡ at → bit j (getD (set image at changed) i 0) ≡ bit j (getD image i 0)
+      same e =
+          ⊎-elim
+          (λ h.
+          ap (λ (k : ℕ). bit j (getD (set image at changed) k 0)) e ∙ ap (bit j) (getD-set-same image at changed 0 h)
+          ∙ bit-xor j (getD image at 0) (2 ^ place) ∙ ap (λ (b : Bool). bit j (getD image at 0) ⊕ b) (power-apart j place (ne e))
+          ∙ ⊕-zero (bit j (getD image at 0)) ∙ ap (λ (k : ℕ). bit j (getD image k 0)) (sym e))
+          (λ h. ap (λ (l : List ℕ). bit j (getD l i 0)) (set-out image at changed h))
+          (split-below at (length image))
+
+      go : (t : Bool) → bit j (getD (cond t (set image at changed) image) i 0) ≡ bit j (getD image i 0)
+      go true = by-cases (ℕ-discrete i at) same (λ nq. ap (bit j) (getD-set-other image at i changed 0 nq))
+      go false = refl
+
+-- a lane with a one in a single row at most
+pub count-single : (n : ℕ) (f : Lane) (r : ℕ) → ((j : ℕ) → j < n → (j ≡ r → ⊥) → f (suc j) ≡ false) → count n f ≤ 1
+unfolding count
+count-single zero f r h = omega arith
+count-single (suc n) f r h =
+    by-cases (ℕ-discrete n r)
+    (λ e.
+    let z = count-same n f (λ p. false) (λ j l. h j (omega arith) (λ q. omega arith)) ∙ count-empty n in
+    omega (arith, at-most (f (suc n))))
+    (λ ne.
+    let c = count-single n f r (λ j l. h j (omega arith)) in
+    rw (h n (omega arith) ne) (omega arith))
+  where
+    at-most : (b : Bool) → pick b 1 ≤ 1
+    at-most true = omega arith
+    at-most false = omega arith

@@ -1,0 +1,184 @@
+-- An image of words is a memory of blocks: its lanes are the bits of each block, and a flip damages one of them. Assumes nothing.
+use Prim.Native.Nat.{ℕ, suc, _≤_, _<_}
+use mathlib.Core.Bool.{Bool}
+use mathlib.Core.Path.{_≡_, refl, sym, ap, _∙_}
+use mathlib.Core.List.{List}
+use mathlib.Core.Logic.{by-cases}
+use native.Mathlib.Decide.{ℕ-discrete}
+use native.Mathlib.Omega.{arith}
+use lib.ListN.{length, replicate, length-replicate}
+use Rattle.lane.specs.Bit.{bit, _⊕_}
+use Rattle.lane.specs.Lane.{diff, apart}
+use Rattle.lane.proofs.Distance.{empty}
+use Rattle.lane.proofs.Linear.{count-same}
+use Rattle.block.specs.declared.Shape.{Shape}
+use Rattle.block.specs.Shape.{before, rows, words}
+use Rattle.block.specs.Words.{lane}
+use Rattle.block.specs.Block.{lanesLost, mendedBlock, validBlock, dataOf}
+use Rattle.block.specs.Block.{Near, SameRows, Fitting}
+use Rattle.block.proofs.Blocks.{near-none, near-rows, mended-fits}
+use Rattle.block.proofs.Judged.{rows-fit}
+use Rattle.block.proofs.ValidBlocks.{length-valid, valid-out, valid-fits, valid-is}
+use Rattle.rota.specs.Memory.{Memory}
+use Rattle.store.specs.Image.{gathered, placed}
+use Rattle.store.specs.Layout.{blocks, index}
+use Rattle.store.specs.Refusal.{layoutRefusal}
+use Rattle.store.specs.Shapes.{shapeOf}
+use Rattle.store.specs.Visit.{visitAfter}
+use Rattle.store.proofs.After.{visit-untouched, visit-words, visit-held}
+use Rattle.store.proofs.Image.{length-gathered, gathered-row, gathered-words, length-placed, placed-words, placed-untouched, gathered-placed}
+use Rattle.demands.specs.Steps.{flipped}
+use Rattle.demands.proofs.Index.{blockAt, rowAt, only-at}
+use Rattle.demands.proofs.Geometry.{bounds, visit-accepted, rows-inside}
+use Rattle.demands.proofs.SameBlocks.{same-apart, same-data, zeros-at, zeros-fit, zeros-block}
+use Rattle.demands.proofs.Flips.{length-flipped, flipped-words, other-bit, count-single}
+
+-- two pairs of numbers are the same or not
+pub pair? : (u v : ℕ × ℕ) → Dec (u ≡ v)
+pair? u v =
+    by-cases (ℕ-discrete (u .0) (v .0))
+    (λ e.
+    by-cases (ℕ-discrete (u .1) (v .1))
+    (λ f. yes (λ i. (e i, f i)))
+    (λ nf. no (λ p. nf (ap (λ (x : ℕ × ℕ). x .1) p))))
+    (λ ne. no (λ p. ne (ap (λ (x : ℕ × ℕ). x .0) p)))
+
+module _ (len shape s g : ℕ) (fits : layoutRefusal len shape s g ≡ 0) where
+  abbrev kind : Shape
+  kind = shapeOf shape
+
+  -- the image keeps its length, and its words are words
+  pub record Sound (image : List ℕ) : Type 0 where
+    pub size : length image ≡ len
+    pub small : Fitting image
+
+  -- a lane is a block and a bit; how far it is from the lane where the data is written
+  abbrev pub OffBy : ℕ → List ℕ → ℕ × ℕ → List ℕ → Type 0
+  OffBy k image u list =
+      u .1 < 32 → apart (before kind) (lane (u .1) (gathered kind s (u .0) image)) (lane (u .1) (validBlock kind list)) ≤ k
+
+  -- what a read finds: the lanes lost, and the data of the mended block
+  abbrev pub found : ℕ → List ℕ → ℕ × List ℕ
+  found block image =
+      (lanesLost kind (gathered kind s block image), dataOf kind (mendedBlock kind (gathered kind s block image)))
+
+  pub as-meant : (image : List ℕ) (u : ℕ × ℕ) (list : List ℕ) → SameRows kind (gathered kind s (u .0) image) (validBlock kind list) → OffBy 0 image u list
+  as-meant image u list h l = omega (arith, same-apart kind (gathered kind s (u .0) image) (validBlock kind list) h (u .1))
+
+  -- where a block is gathered as before, its lanes are as far off as before
+  pub unmoved : (k : ℕ) (image new : List ℕ) (u : ℕ × ℕ) (list : List ℕ) → gathered kind s (u .0) new ≡ gathered kind s (u .0) image
+      → OffBy k image u list → OffBy k new u list
+  unmoved k image new u list e off = rw e off
+
+  -- ---- a block that is at most one flip off in each lane
+
+  module _ (block : ℕ) (image list : List ℕ) (ok : Sound image) (off : (u : ℕ × ℕ) → u .0 ≡ block → OffBy 1 image u list) where
+    abbrev here : List ℕ
+    here = gathered kind s block image
+
+    long : rows kind ≤ length here
+    long = rw (length-gathered kind s block image) (rows-fit kind)
+
+    near : Near kind here (validBlock kind list)
+    near i h = off (block, i) refl h
+
+    pub none-lost : lanesLost kind here ≡ 0
+    none-lost = near-none kind here long (validBlock kind list) (valid-is kind list) near
+
+    pub mended-rows : SameRows kind (mendedBlock kind here) (validBlock kind list)
+    mended-rows =
+        near-rows kind here long (validBlock kind list) (valid-is kind list) near
+        (mended-fits kind here (gathered-words kind s block image (ok .small)))
+        (valid-fits kind list)
+
+    pub found-right : found block image ≡ (0, dataOf kind (validBlock kind list))
+    found-right = λ i. (none-lost i, same-data kind (mendedBlock kind here) (validBlock kind list) mended-rows i)
+
+  -- ---- a flip
+
+  module _ (at place : ℕ) (image : List ℕ) (u : ℕ × ℕ) where
+    -- a row of the lane is as it was, unless the flip is in that lane and that row
+    row-kept : (k : ℕ) → k < rows kind → (u .0 ≡ blockAt (rows kind) s at → k ≡ rowAt (rows kind) s at → u .1 ≡ place → ⊥)
+        → lane (u .1) (gathered kind s (u .0) (flipped at place image)) (suc k) ≡ lane (u .1) (gathered kind s (u .0) image) (suc k)
+    row-kept k h ne =
+        ap (bit (u .1)) (gathered-row kind s (u .0) (flipped at place image) k h)
+        ∙ other-bit at place image (index (rows kind) s (u .0) (suc k)) (u .1)
+        (λ e f. let q = only-at (rows kind) s (omega arith) (bounds len shape s g fits .s-first) at (u .0) k h e in ne (q .0) (q .1) f)
+        ∙ sym (ap (bit (u .1)) (gathered-row kind s (u .0) image k h))
+
+    pub flip-elsewhere : ((blockAt (rows kind) s at, place) ≡ u → ⊥) → (list : List ℕ) (k : ℕ) → OffBy k image u list → OffBy k (flipped at place image) u list
+    flip-elsewhere ne list k off l =
+        omega (
+          arith,
+          off l,
+          count-same (rows kind)
+              (diff (lane (u .1) (gathered kind s (u .0) (flipped at place image))) (lane (u .1) (validBlock kind list)))
+              (diff (lane (u .1) (gathered kind s (u .0) image)) (lane (u .1) (validBlock kind list)))
+              (λ j h.
+              ap (λ (b : Bool). b ⊕ lane (u .1) (validBlock kind list) (suc j)) (row-kept j h (λ e r f. ne (λ i. (sym e i, sym f i))))),
+        )
+
+    pub flip-there : (list : List ℕ) → OffBy 0 image u list → OffBy 1 (flipped at place image) u list
+    flip-there list off l =
+        count-single (rows kind) (diff (lane (u .1) (gathered kind s (u .0) (flipped at place image))) (lane (u .1) (validBlock kind list))) (rowAt (rows kind) s at)
+        (λ j h ne.
+        ap (λ (b : Bool). b ⊕ lane (u .1) (validBlock kind list) (suc j)) (row-kept j h (λ e r f. ne r))
+        ∙ empty (rows kind) (diff (lane (u .1) (gathered kind s (u .0) image)) (lane (u .1) (validBlock kind list))) (omega (arith, off l)) j h)
+
+  -- ---- the memory
+
+  abbrev pub imageMemory : Memory (blocks s g)
+  imageMemory =
+      record {
+        State = List ℕ;
+        Lane = ℕ × ℕ;
+        Flip = ℕ × ℕ;
+        Data = List ℕ;
+        Answer = ℕ × List ℕ;
+        block = λ u. u .0;
+        lane = λ f. (blockAt (rows kind) s (f .0), f .1);
+        lane? = pair?;
+        zeros = replicate (words kind) 0;
+        fresh = replicate len 0;
+        visit = λ block image. visitAfter image shape s g block;
+        write = λ block list image. placed kind s block (validBlock kind list) image;
+        flip = λ f. flipped (f .0) (f .1);
+        read = found;
+        gives = λ list. (0, dataOf kind (validBlock kind list));
+        Good = Sound;
+        fresh-good = record { size = length-replicate len 0; small = zeros-fit len };
+        visit-good = λ block image ok. record { size = visit-untouched image shape s g block .size ∙ ok .size; small = visit-words image shape s g block (ok .small) };
+        write-good = λ block list image ok.
+            record {
+              size = length-placed kind s block (validBlock kind list) image ∙ ok .size;
+              small = placed-words kind s block (validBlock kind list) image (valid-fits kind list) (ok .small);
+            };
+        flip-good = λ f image ok. record { size = length-flipped (f .0) (f .1) image ∙ ok .size; small = flipped-words (f .0) (f .1) image (ok .small) };
+        Off = OffBy;
+        off-more = λ image u list ok off l. omega (arith, off l);
+        fresh-zeros = λ u l.
+            as-meant (replicate len 0) u (replicate (words kind) 0)
+            (zeros-block kind (gathered kind s (u .0) (replicate len 0)) (gathered-words kind s (u .0) (replicate len 0) (zeros-fit len))
+            (λ j h. gathered-row kind s (u .0) (replicate len 0) j h ∙ zeros-at len (index (rows kind) s (u .0) (suc j))));
+        visit-here = λ block image list ok l off u e.
+            as-meant (visitAfter image shape s g block) u list
+            (rw (e, visit-held image shape s g block (rw (ok .size) (visit-accepted len shape s g fits block l))) (mended-rows block image list ok off));
+        visit-away = λ block image u list ok ne k off. unmoved k image (visitAfter image shape s g block) u list (visit-untouched image shape s g block .others (u .0) ne) off;
+        write-here = λ block list image u ok l e.
+            as-meant (placed kind s block (validBlock kind list) image) u list
+            (rw (
+              e,
+              gathered-placed kind s block (bounds len shape s g fits .s-first) (validBlock kind list) image
+                  (λ p a b. rw (ok .size) (rows-inside len shape s g fits block l p a b))
+                  (length-valid kind list)
+                  (valid-out kind list),
+            )
+            (λ j h. refl));
+        write-away = λ block new image u list ok ne k off.
+            unmoved k image (placed kind s block (validBlock kind new) image) u list
+            (placed-untouched kind s block (bounds len shape s g fits .s-first) (validBlock kind new) image .others (u .0) ne)
+            off;
+        flip-here = λ f image u list ok e off. flip-there (f .0) (f .1) image u list off;
+        flip-away = λ f image u list ok ne k off. flip-elsewhere (f .0) (f .1) image u ne list k off;
+        read-here = λ block image list ok l off. found-right block image list ok off;
+      }

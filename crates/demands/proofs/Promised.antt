@@ -1,0 +1,40 @@
+-- Each call leaves the one state that its promise allows, and so does format: the steps are no second definition. Assumes nothing.
+use Prim.Native.Nat.{ℕ}
+use mathlib.Core.Path.{_≡_, refl, ap, _∙_}
+use mathlib.Core.List.{List}
+use Rattle.patrol.specs.declared.Formatted.{Formatted}
+use Rattle.patrol.specs.declared.Asked.{Asked}
+use Rattle.patrol.specs.declared.Turned.{Turned}
+use Rattle.demands.specs.Steps.{Step, write, read, visit, ask, turn, flip, State, fresh, stepAfter}
+use Rattle.demands.specs.Promised.{Allowed, AllowedFresh}
+
+-- two states are the same where image and record are
+same-state : (old new : State) → old .image ≡ new .image → old .patrol ≡ new .patrol → old ≡ new
+same-state old new e f = λ i. record { image = e i; patrol = f i }
+
+-- no other state
+pub only-allowed : (step : Step) (old new : State) → Allowed step old new → new ≡ stepAfter step old
+only-allowed (write shape s g block list) old new h = same-state new (stepAfter (write shape s g block list) old) (h .1 .leaves) (h .2)
+only-allowed (read shape s g block buffer) old new h = same-state new old (h .3) (h .4)
+only-allowed (visit shape s g block) old new h = same-state new (stepAfter (visit shape s g block) old) (h .1 .leaves) (h .2)
+only-allowed (ask block) old new h =
+    same-state new (stepAfter (ask block) old) (h .2) (h .3 ∙ ap (λ (answer : Asked). answer .back) (h .1))
+only-allowed turn old new h =
+    same-state new (stepAfter turn old) (h .1 .leaves) (h .2 ∙ ap (λ (answer : Turned). answer .back) (h .1 .answers))
+only-allowed (flip index bit) old new h = same-state new (stepAfter (flip index bit) old) (h .0) (h .1)
+
+pub only-fresh : (image : List ℕ) (shape s g : ℕ) (new : State) → AllowedFresh image shape s g new → new ≡ fresh image shape s g
+only-fresh image shape s g new h =
+    same-state new (fresh image shape s g) (h .1 .leaves) (h .2 ∙ ap (λ (answer : Formatted). answer .back) (h .1 .answers))
+
+-- and this one
+pub is-allowed : (step : Step) (old : State) → Allowed step old (stepAfter step old)
+is-allowed (write shape s g block list) old = (_, record { answers = refl; leaves = refl }, refl)
+is-allowed (read shape s g block buffer) old = (_, _, record { answers = refl; leaves = refl }, refl, refl)
+is-allowed (visit shape s g block) old = (_, record { answers = refl; leaves = refl }, refl)
+is-allowed (ask block) old = (_, refl, refl, refl)
+is-allowed turn old = (_, record { answers = refl; leaves = refl }, refl)
+is-allowed (flip index bit) old = (refl, refl)
+
+pub is-fresh : (image : List ℕ) (shape s g : ℕ) → AllowedFresh image shape s g (fresh image shape s g)
+is-fresh image shape s g = (_, record { answers = refl; leaves = refl }, refl)

@@ -1,0 +1,97 @@
+-- A list of steps: each is a call with its arguments, whatever they are, or one flip named by index and bit. Image and record go from
+-- step to step as values, and each call leaves what its promise says: the definitions are those that the promises cite. Assumes nothing.
+use Prim.Native.Nat.{ℕ, suc, _^_}
+use mathlib.Core.Bool.{cond}
+use mathlib.Core.List.{List, [], _∷_}
+use lib.Bits.{bitXor}
+use lib.Dec.{eqb, ltb}
+use lib.ListN.{getD, set}
+use Rattle.block.specs.Block.{ifZero}
+use Rattle.rota.specs.Numbers.{placeNumber}
+use Rattle.store.specs.Answer.{answerNumber}
+use Rattle.store.specs.Write.{writeAnswer, writeAfter}
+use Rattle.store.specs.Read.{readAnswer}
+use Rattle.store.specs.Visit.{visitAnswer, visitAfter}
+use Rattle.patrol.specs.declared.Record.{Record}
+use Rattle.patrol.specs.declared.Report.{Report}
+use Rattle.patrol.specs.Numbers.{reportNumber}
+use Rattle.patrol.specs.Format.{formatted, formatAfter}
+use Rattle.patrol.specs.Ask.{asked}
+use Rattle.patrol.specs.Turn.{turned, turnAfter}
+
+pub data Step : Type 0 where
+  write : (shape s g block : ℕ) → List ℕ → Step
+  read : (shape s g block : ℕ) → List ℕ → Step
+  visit : (shape s g block : ℕ) → Step
+  ask : ℕ → Step
+  turn : Step
+  flip : (index bit : ℕ) → Step
+
+-- the image, and the record of its patrol
+pub record State : Type 0 where
+  pub image : List ℕ
+  pub patrol : Record
+
+-- what format leaves
+abbrev pub fresh : List ℕ → ℕ → ℕ → ℕ → State
+fresh image shape s g = record { image = formatAfter image shape s g; patrol = formatted image shape s g .back }
+
+-- the image with one bit of one word changed; past its end, and above bit 31, there is none to change
+unfoldable pub flipped : ℕ → ℕ → List ℕ → List ℕ
+flipped index bit image = cond (ltb bit 32) (set image index (bitXor (getD image index 0) (2 ^ bit))) image
+
+-- the state after a step, and after a list of steps
+abbrev pub stepAfter : Step → State → State
+stepAfter (write shape s g block list) state =
+    record { image = writeAfter (state .image) shape s g block list; patrol = state .patrol }
+stepAfter (read shape s g block buffer) state = state
+stepAfter (visit shape s g block) state = record { image = visitAfter (state .image) shape s g block; patrol = state .patrol }
+stepAfter (ask block) state = record { image = state .image; patrol = asked (state .patrol) block .back }
+stepAfter turn state =
+    record { image = turnAfter (state .patrol) (state .image); patrol = turned (state .patrol) (state .image) .back }
+stepAfter (flip index bit) state = record { image = flipped index bit (state .image); patrol = state .patrol }
+
+unfoldable pub after : List Step → State → State
+after [] state = state
+after (step ∷ rest) state = after rest (stepAfter step state)
+
+-- the report of a turn
+abbrev pub report : State → Report
+report state = turned (state .patrol) (state .image) .report
+
+-- the number that a call answers, which is 0 where it is accepted; a flip is no call
+abbrev pub answers : Step → State → ℕ
+answers (write shape s g block list) state = answerNumber (writeAnswer (state .image) shape s g block list)
+answers (read shape s g block buffer) state = answerNumber (readAnswer (state .image) shape s g block buffer)
+answers (visit shape s g block) state = answerNumber (visitAnswer (state .image) shape s g block)
+answers (ask block) state = placeNumber (asked (state .patrol) block .place)
+answers turn state = reportNumber (report state)
+answers (flip index bit) state = 0
+
+-- how many turns a list has
+abbrev pub tick : Step → ℕ → ℕ
+tick (write shape s g block list) count = count
+tick (read shape s g block buffer) count = count
+tick (visit shape s g block) count = count
+tick (ask block) count = count
+tick turn count = suc count
+tick (flip index bit) count = count
+
+unfoldable pub turns : List Step → ℕ
+turns [] = 0
+turns (step ∷ rest) = tick step (turns rest)
+
+-- the data that a block is meant to hold after a step: an accepted write to the block changes it, and nothing else does
+abbrev pub meant : ℕ → List ℕ → Step → State → List ℕ
+meant block old (write shape s g to list) state =
+    ifZero (answers (write shape s g to list) state) (cond (eqb to block) list old) old
+meant block old (read shape s g from buffer) state = old
+meant block old (visit shape s g at) state = old
+meant block old (ask asked) state = old
+meant block old turn state = old
+meant block old (flip index bit) state = old
+
+-- the data last written to a block in a list of steps, and the old data where none was
+unfoldable pub lastWritten : ℕ → List ℕ → List Step → State → List ℕ
+lastWritten block old [] state = old
+lastWritten block old (step ∷ rest) state = lastWritten block (meant block old step state) rest (stepAfter step state)

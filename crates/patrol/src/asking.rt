@@ -1,0 +1,29 @@
+// Ask: a block put on the waiting list of the record.
+ghost use mathlib.Core.Path.{_≡_};
+ghost use Rattle.patrol.specs.Ask.{asked};
+use super::Asked;
+use super::Record;
+use rota::Place;
+
+impl Record {
+    pub fn ask(self, block: u32) -> Asked
+        ensures { λ r. ⌜ r ≡ asked self block ⌝ }
+    {
+        let s = self.s;
+        let g = self.g;
+        let number = store::check_geometry(self.shape, s, g);
+        if number != 0 {
+            return Asked {
+                place: Place::Refused(number),
+                back: self,
+            };
+        }
+        let rota = self.rota;
+        let answer = rota.ask(g * s, block);
+        let place = answer.place;
+        let moved = answer.rota;
+        let mut back = self;
+        back.rota = moved;
+        Asked { place, back }
+    }
+}
