@@ -11,6 +11,17 @@ use Rattle.store.specs.Refusal.{geometryRefusal, layoutRefusal, blockRung}
 use Rattle.store.specs.Write.{Writes}
 use Rattle.store.specs.Read.{Reads}
 use Rattle.store.specs.Visit.{Visits}
+use Rattle.rota.specs.declared.Rota.{Rota}
+use Rattle.rota.specs.declared.Asked.{Asked as RotaAsked}
+use Rattle.rota.specs.declared.Turned.{Turned as RotaTurned}
+use Rattle.rota.specs.Record.{fresh, asked as rotaAsked, turned as rotaTurned}
+use Rattle.patrol.specs.declared.Record.{Record}
+use Rattle.patrol.specs.declared.Formatted.{Formatted}
+use Rattle.patrol.specs.declared.Asked.{Asked}
+use Rattle.patrol.specs.declared.Turned.{Turned}
+use Rattle.patrol.specs.Format.{Formats}
+use Rattle.patrol.specs.Ask.{asked}
+use Rattle.patrol.specs.Turn.{Turns}
 
 -- two things that are each equal to a third
 both : {A : Type 0} {a b c : A} → a ≡ c → b ≡ c → a ≡ b
@@ -52,3 +63,24 @@ module _ (shape : Shape) (block a b : List ℕ) where
 
   pub one-data : (buffer : List ℕ) → a ≡ dataInto shape block buffer → b ≡ dataInto shape block buffer → a ≡ b
   one-data buffer p q = both p q
+
+-- ---- the patrol and its rota
+
+module _ (image after after′ : List ℕ) where
+  pub one-format : (shape s g : ℕ) (a b : Formatted) → Formats image shape s g a after → Formats image shape s g b after′ → (a ≡ b) × (after ≡ after′)
+  one-format shape s g a b p q = (both (p .answers) (q .answers), both (p .leaves) (q .leaves))
+
+  pub one-turn : (r : Record) (a b : Turned) → Turns r image a after → Turns r image b after′ → (a ≡ b) × (after ≡ after′)
+  one-turn r a b p q = (both (p .answers) (q .answers), both (p .leaves) (q .leaves))
+
+pub one-ask : (r : Record) (block : ℕ) (a b : Asked) → a ≡ asked r block → b ≡ asked r block → a ≡ b
+one-ask r block a b p q = both p q
+
+pub one-fresh : (a b : Rota) → a ≡ fresh → b ≡ fresh → a ≡ b
+one-fresh a b p q = both p q
+
+pub one-rota-ask : (n : ℕ) (rota : Rota) (block : ℕ) (a b : RotaAsked) → a ≡ rotaAsked n rota block → b ≡ rotaAsked n rota block → a ≡ b
+one-rota-ask n rota block a b p q = both p q
+
+pub one-rota-turn : (n : ℕ) (rota : Rota) (a b : RotaTurned) → a ≡ rotaTurned n rota → b ≡ rotaTurned n rota → a ≡ b
+one-rota-turn n rota a b p q = both p q

@@ -1,4 +1,4 @@
--- Demand 1 holds of write, read and visit. Assumes nothing.
+-- Demand 1 holds of every call. Assumes nothing.
 use Prim.Native.Nat.{ℕ}
 use mathlib.Core.Path.{_≡_, refl, sym, subst, _∙_}
 use mathlib.Core.List.{List, [], _∷_, _++_}
@@ -13,8 +13,23 @@ use Rattle.store.specs.Read.{readAnswer, readBuffer}
 use Rattle.store.specs.Visit.{visitAnswer, visitAfter}
 use Rattle.store.proofs.Answers.{answered-number, answered-refused, refused-kept}
 use Rattle.store.proofs.Ladder.{visit-first, data-first}
-use Rattle.demands.specs.Refusing.{Refusing, VisitNumbers, DataNumbers, DemandOne}
+use Rattle.patrol.specs.declared.Record.{Record}
+use Rattle.patrol.specs.Ask.{asked}
+use Rattle.patrol.specs.Turn.{turned}
+use Rattle.patrol.proofs.Numbers.{place-bare, report-bare}
+use Rattle.patrol.proofs.Kept.{format-kept, ask-kept, turn-kept}
+use Rattle.patrol.proofs.Reasons.{format-first, ask-first, turn-first}
+use Rattle.demands.specs.Refusing.{Ruled, Refusing, VisitNumbers, DataNumbers, FormatRefusing, AskRefusing, TurnRefusing, DemandOne}
 use Rattle.demands.proofs.FirstRule.{distinct?, given, none-given}
+
+-- a number that is the first of its rules
+ruled : (rules : List Rule) (number : ℕ) → T (distinct? rules) → FirstOf rules number → Ruled rules number
+ruled rules number t first =
+    record {
+      exactly = λ earlier later rule e.
+          given earlier later rule number (subst (λ (l : List Rule). T (distinct? l)) (sym e) t) (subst (λ (l : List Rule). FirstOf l number) (sym e) first);
+      accepted = none-given rules number t first;
+    }
 
 -- a call that answers the first of its rules, and leaves what was lent where it refuses
 module _ (rules : List Rule) (number : ℕ) (inner : Answer) (plain : answerNumber inner ≡ 0) (t : T (distinct? rules)) (first : FirstOf rules number) where
@@ -27,10 +42,7 @@ module _ (rules : List Rule) (number : ℕ) (inner : Answer) (plain : answerNumb
   pub refusing : (new lent : List ℕ) → Refusing rules (answered number inner) lent (ifZero number new lent)
   refusing new lent =
       record {
-        exactly = λ earlier later rule e.
-            rw counted
-            (given earlier later rule number (subst (λ (l : List Rule). T (distinct? l)) (sym e) t) (subst (λ (l : List Rule). FirstOf l number) (sym e) first));
-        accepted = rw counted (none-given rules number t first);
+        ruled = rw counted (ruled rules number t first);
         bare = λ ne. rw (answered-refused number inner (refused ne)) (refl, refl);
         unchanged = λ ne. refused-kept number new lent (refused ne);
       }
@@ -50,8 +62,21 @@ module _ (image : List ℕ) (shape s g block : ℕ) where
   unfolding visitAnswer visitAfter
   visit-refuses = refusing _ _ _ refl tt (visit-first (length image) shape s g block) _ image
 
+pub format-refuses : (image : List ℕ) (shape s g : ℕ) → FormatRefusing image shape s g
+format-refuses image shape s g =
+    record { ruled = ruled _ _ tt (format-first image shape s g); unchanged = format-kept image shape s g }
+
+pub ask-refuses : (r : Record) (block : ℕ) → AskRefusing r block
+ask-refuses r block =
+    record { ruled = ruled _ _ tt (ask-first r block); bare = place-bare (asked r block .place); unchanged = ask-kept r block }
+
+pub turn-refuses : (r : Record) (image : List ℕ) → TurnRefusing r image
+turn-refuses r image =
+    record { ruled = ruled _ _ tt (turn-first r image); bare = report-bare (turned r image .report); unchanged = turn-kept r image }
+
 pub demand-one : DemandOne
-demand-one = record { write = write-refuses; read = read-refuses; visit = visit-refuses }
+demand-one =
+    record { write = write-refuses; read = read-refuses; visit = visit-refuses; format = format-refuses; ask = ask-refuses; turn = turn-refuses }
 
 -- ---- the table line by line
 
@@ -60,13 +85,13 @@ module _ {answer : Answer} {lent left : List ℕ} {len shape s g block : ℕ} wh
       → VisitNumbers (answerNumber answer) len shape s g block
   visit-numbers later r =
       record {
-        one = r .exactly [] _ (noShape shape) refl;
-        two = r .exactly (noShape shape ∷ []) _ (badInterleave s) refl;
-        three = r .exactly (noShape shape ∷ badInterleave s ∷ []) _ (badGroups s g) refl;
-        four = r .exactly (noShape shape ∷ badInterleave s ∷ badGroups s g ∷ []) _ (badLength len shape s g) refl;
-        six = r .exactly (layoutRules len shape s g) _ (noBlock s g block) refl;
+        one = r .ruled .exactly [] _ (noShape shape) refl;
+        two = r .ruled .exactly (noShape shape ∷ []) _ (badInterleave s) refl;
+        three = r .ruled .exactly (noShape shape ∷ badInterleave s ∷ []) _ (badGroups s g) refl;
+        four = r .ruled .exactly (noShape shape ∷ badInterleave s ∷ badGroups s g ∷ []) _ (badLength len shape s g) refl;
+        six = r .ruled .exactly (layoutRules len shape s g) _ (noBlock s g block) refl;
       }
 
   pub data-numbers : (list : ℕ) → Refusing (dataRules len shape s g block list) answer lent left → DataNumbers (answerNumber answer) len shape s g block list
   data-numbers list r =
-      record { visited = visit-numbers (badList shape list ∷ []) r; seven = r .exactly (visitRules len shape s g block) _ (badList shape list) refl }
+      record { visited = visit-numbers (badList shape list ∷ []) r; seven = r .ruled .exactly (visitRules len shape s g block) _ (badList shape list) refl }

@@ -6,4 +6,3 @@ pub mod Broken
 pub mod Numbers
 pub mod Kept
 pub mod Reasons
-pub mod OneResult
