@@ -1,0 +1,28 @@
+-- `store::copies::take` meets its contract: without interleave the stride is 1. Assumes nothing.
+use Prim.Native.Nat.{ℕ, _≤_}
+use mathlib.Core.Path.{_≡_, sym, ap, subst, _∙_}
+use lib.ListN.{length}
+use borrow.Author.Needs.{needs}
+use Rattle.store.specs.Inner.{Inside, strideRead}
+use Rattle.store.proofs.copies.take.Statement.{statement}
+use Rattle.store.proofs.copies.take.Tie as tie
+
+take-rows-requires : tie.Need-take-rows-requires
+take-rows-requires c κs =
+    let start = c .before .before .before in
+    subst (λ (s : ℕ). (start .args .rows ≤ 72) × Inside (length (start .args .image .now)) (start .args .rows) (start .args .at) s) (c .before .if1 .taken) (start .pre)
+
+take-rows-requires-2 : tie.Need-take-rows-requires-2
+take-rows-requires-2 c κs = search needs
+
+returns : tie.Need-returns
+returns c =
+    let start = c .before .before .before .before in
+    c .take-rows .ensures
+    ∙ ap (λ (s : ℕ). strideRead (start .args .image .now) (start .args .at) s (start .args .block .now) (start .args .rows)) (sym (c .before .before .if1 .taken))
+
+returns-2 : tie.Need-returns-2
+returns-2 c = search needs
+
+pub take-spec : {M : Type 1} → statement M
+take-spec = tie.close (tie.spec take-rows-requires take-rows-requires-2 returns returns-2)
