@@ -1,0 +1,343 @@
+/* The interface of include/foldgrebe.h in plain C: the library's algorithm as a C programmer would write it.
+   It is the measure for the library's speed, and a second body for tests/run to try its rig on.
+
+   A word is 32 lanes at once: the xor of the rows that one check row covers is that digit of the sum in every lane. */
+#include <string.h>
+#include "foldgrebe.h"
+
+enum { MOST_ROWS = 72, MOST_DATA = 64, MOST_DIGITS = 7, MOST_BLOCKS = 4096, PLACES = 16 };
+enum { CLEAN = 1, MENDED = 2, LOST = 3 };
+enum { SHAPE, INTERLEAVE, GROUPS, NEXT, WAITING, PLACE };   /* where the record has each */
+
+#define INLINE static inline __attribute__((always_inline))
+
+/* The rows that are no check rows, lowest first. */
+static const uint8_t data_rows_16[11] = { 3, 5, 6, 7, 9, 10, 11, 12, 13, 14, 15 };
+static const uint8_t data_rows_72[64] = {
+    3, 5, 6, 7, 9, 10, 11, 12, 13, 14, 15, 17, 18, 19, 20, 21, 22, 23, 24, 25, 26, 27, 28, 29, 30, 31, 33, 34, 35, 36, 37, 38,
+    39, 40, 41, 42, 43, 44, 45, 46, 47, 48, 49, 50, 51, 52, 53, 54, 55, 56, 57, 58, 59, 60, 61, 62, 63, 65, 66, 67, 68, 69, 70, 71,
+};
+
+/* The rows that each check row but the last covers; the check row itself stands first. */
+static const uint8_t covered_16[4][8] = {
+    { 1, 3, 5, 7, 9, 11, 13, 15 },
+    { 2, 3, 6, 7, 10, 11, 14, 15 },
+    { 4, 5, 6, 7, 12, 13, 14, 15 },
+    { 8, 9, 10, 11, 12, 13, 14, 15 },
+};
+static const uint8_t covered_72[7][36] = {
+    { 1, 3, 5, 7, 9, 11, 13, 15, 17, 19, 21, 23, 25, 27, 29, 31, 33, 35,
+      37, 39, 41, 43, 45, 47, 49, 51, 53, 55, 57, 59, 61, 63, 65, 67, 69, 71 },
+    { 2, 3, 6, 7, 10, 11, 14, 15, 18, 19, 22, 23, 26, 27, 30, 31, 34, 35,
+      38, 39, 42, 43, 46, 47, 50, 51, 54, 55, 58, 59, 62, 63, 66, 67, 70, 71 },
+    { 4, 5, 6, 7, 12, 13, 14, 15, 20, 21, 22, 23, 28, 29, 30, 31, 36, 37,
+      38, 39, 44, 45, 46, 47, 52, 53, 54, 55, 60, 61, 62, 63, 68, 69, 70, 71 },
+    { 8, 9, 10, 11, 12, 13, 14, 15, 24, 25, 26, 27, 28, 29, 30, 31,
+      40, 41, 42, 43, 44, 45, 46, 47, 56, 57, 58, 59, 60, 61, 62, 63 },
+    { 16, 17, 18, 19, 20, 21, 22, 23, 24, 25, 26, 27, 28, 29, 30, 31,
+      48, 49, 50, 51, 52, 53, 54, 55, 56, 57, 58, 59, 60, 61, 62, 63 },
+    { 32, 33, 34, 35, 36, 37, 38, 39, 40, 41, 42, 43, 44, 45, 46, 47,
+      48, 49, 50, 51, 52, 53, 54, 55, 56, 57, 58, 59, 60, 61, 62, 63 },
+    { 64, 65, 66, 67, 68, 69, 70, 71 },
+};
+
+/* A block's rows, gathered; row p is row[p - 1]. */
+typedef struct { uint32_t row[MOST_ROWS]; } gathered;
+
+/* The digits of every lane's sum, and the lanes whose parity is odd. */
+typedef struct { uint32_t digit[MOST_DIGITS], odd; } findings;
+
+typedef struct { uint32_t verdict, count; } outcome;
+
+INLINE unsigned rows_of(uint32_t shape) { return shape == 1 ? 16 : 72; }
+INLINE unsigned data_of(uint32_t shape) { return shape == 1 ? 11 : 64; }
+INLINE unsigned digits_of(uint32_t shape) { return shape == 1 ? 4 : 7; }
+
+INLINE uint32_t ones(uint32_t x)
+{
+    x -= x >> 1 & 0x55555555u;
+    x = (x & 0x33333333u) + (x >> 2 & 0x33333333u);
+    return ((x + (x >> 4)) & 0x0f0f0f0fu) * 0x01010101u >> 24;
+}
+
+/* Where row 1 of a block lies; its further rows follow s words apart. */
+INLINE size_t first_row(uint32_t shape, uint32_t s, uint32_t block)
+{
+    return (size_t)(block / s) * rows_of(shape) * s + block % s;
+}
+
+INLINE void gather(gathered *b, const uint32_t *at, uint32_t s, unsigned rows)
+{
+    if (s == 1) { memcpy(b->row, at, rows * sizeof *at); return; }
+#pragma GCC unroll 8
+    for (unsigned p = 0; p < rows; p++, at += s) b->row[p] = *at;
+}
+
+INLINE void scatter(const gathered *b, uint32_t *at, uint32_t s, unsigned rows)
+{
+    if (s == 1) { memcpy(at, b->row, rows * sizeof *at); return; }
+#pragma GCC unroll 8
+    for (unsigned p = 0; p < rows; p++, at += s) *at = b->row[p];
+}
+
+INLINE uint32_t covered(const gathered *b, const uint8_t *list, unsigned n)
+{
+    uint32_t x = 0;
+#pragma GCC unroll 36
+    for (unsigned i = 0; i < n; i++) x ^= b->row[list[i] - 1];
+    return x;
+}
+
+INLINE uint32_t every_row(const gathered *b, unsigned rows)
+{
+    uint32_t x = 0;
+#pragma GCC unroll 72
+    for (unsigned p = 0; p < rows; p++) x ^= b->row[p];
+    return x;
+}
+
+INLINE findings look_16(const gathered *b)
+{
+    findings f;
+    f.odd = every_row(b, 16);
+#pragma GCC unroll 4
+    for (unsigned k = 0; k < 4; k++) f.digit[k] = covered(b, covered_16[k], 8);
+    return f;
+}
+
+INLINE findings look_72(const gathered *b)
+{
+    findings f;
+    f.odd = every_row(b, 72);
+#pragma GCC unroll 3
+    for (unsigned k = 0; k < 3; k++) f.digit[k] = covered(b, covered_72[k], 36);
+#pragma GCC unroll 3
+    for (unsigned k = 3; k < 6; k++) f.digit[k] = covered(b, covered_72[k], 32);
+    f.digit[6] = covered(b, covered_72[6], 8);
+    return f;
+}
+
+INLINE findings look(const gathered *b, uint32_t shape) { return shape == 1 ? look_16(b) : look_72(b); }
+
+INLINE uint32_t any_digit(const findings *f, uint32_t shape)
+{
+    uint32_t any = 0;
+#pragma GCC unroll 7
+    for (unsigned k = 0; k < digits_of(shape); k++) any |= f->digit[k];
+    return any;
+}
+
+/* Even with a sum; in shape 2 also odd with a sum of 72 or more: 64 and at least one of 8, 16, 32. */
+INLINE uint32_t lost_lanes(const findings *f, uint32_t shape)
+{
+    uint32_t even = any_digit(f, shape) & ~f->odd;
+    return shape == 1 ? even : even | (f->odd & f->digit[6] & (f->digit[5] | f->digit[4] | f->digit[3]));
+}
+
+/* The row that a mendable lane wants flipped, counted from 0; a sum of 0 stands for the last row. */
+INLINE unsigned wrong_row(const findings *f, unsigned lane, uint32_t shape)
+{
+    unsigned sum = 0;
+#pragma GCC unroll 7
+    for (unsigned k = 0; k < digits_of(shape); k++) sum |= (f->digit[k] >> lane & 1) << k;
+    return (sum ? sum : rows_of(shape)) - 1;
+}
+
+/* Mends rows that lie stride words apart, going from one odd lane to the next. */
+INLINE void mend(const findings *f, uint32_t *at, size_t stride, uint32_t shape)
+{
+    for (uint32_t left = f->odd; left; left &= left - 1) {
+        unsigned lane = (unsigned)__builtin_ctz(left);
+        at[wrong_row(f, lane, shape) * stride] ^= 1u << lane;
+    }
+}
+
+INLINE outcome decide(const findings *f, uint32_t shape)
+{
+    if ((any_digit(f, shape) | f->odd) == 0) return (outcome){ CLEAN, 0 };
+    uint32_t lost = lost_lanes(f, shape);
+    if (lost) return (outcome){ LOST, ones(lost) };
+    return (outcome){ MENDED, ones(f->odd) };
+}
+
+INLINE outcome visit_as(uint32_t *at, uint32_t s, uint32_t shape)
+{
+    gathered b;
+    gather(&b, at, s, rows_of(shape));
+    findings f = look(&b, shape);
+    outcome o = decide(&f, shape);
+    if (o.verdict == MENDED) mend(&f, at, s, shape);
+    return o;
+}
+
+static outcome visit(uint32_t *at, uint32_t s, uint32_t shape)
+{
+    return shape == 1 ? visit_as(at, s, 1) : visit_as(at, s, 2);
+}
+
+INLINE outcome read_as(const uint32_t *at, uint32_t s, uint32_t shape, uint32_t *buffer)
+{
+    gathered b;
+    const uint8_t *data_rows = shape == 1 ? data_rows_16 : data_rows_72;
+    gather(&b, at, s, rows_of(shape));
+    findings f = look(&b, shape);
+    outcome o = decide(&f, shape);
+    if (o.verdict == LOST) return o;
+    if (o.verdict == MENDED) mend(&f, b.row, 1, shape);
+#pragma GCC unroll 64
+    for (unsigned i = 0; i < data_of(shape); i++) buffer[i] = b.row[data_rows[i] - 1];
+    return o;
+}
+
+INLINE void place_as(gathered *b, uint32_t shape, const uint32_t *data)
+{
+    const uint8_t *data_rows = shape == 1 ? data_rows_16 : data_rows_72;
+#pragma GCC unroll 7
+    for (unsigned k = 0; k < digits_of(shape); k++) b->row[(1u << k) - 1] = 0;
+    b->row[rows_of(shape) - 1] = 0;
+#pragma GCC unroll 64
+    for (unsigned i = 0; i < data_of(shape); i++) b->row[data_rows[i] - 1] = data[i];
+}
+
+/* The data words in their rows, and zeros in the check rows. */
+static __attribute__((noinline)) void place(gathered *b, uint32_t shape, const uint32_t *data)
+{
+    if (shape == 1) place_as(b, 1, data); else place_as(b, 2, data);
+}
+
+INLINE void write_as(uint32_t *at, uint32_t s, uint32_t shape, const uint32_t *data)
+{
+    gathered b;
+    unsigned rows = rows_of(shape);
+    place(&b, shape, data);
+    findings f = look(&b, shape);
+#pragma GCC unroll 7
+    for (unsigned k = 0; k < digits_of(shape); k++) b.row[(1u << k) - 1] = f.digit[k];
+    b.row[rows - 1] = every_row(&b, rows);
+    scatter(&b, at, s, rows);
+}
+
+static uint32_t refuse_layout(uint32_t shape, uint32_t s, uint32_t g)
+{
+    if (shape != 1 && shape != 2) return 1;
+    if (s == 0 || s > 16) return 2;
+    if (g == 0 || (uint64_t)g * s > MOST_BLOCKS) return 3;
+    return 0;
+}
+
+static uint32_t refuse_image(size_t words, uint32_t shape, uint32_t s, uint32_t g)
+{
+    uint32_t number = refuse_layout(shape, s, g);
+    if (number) return number;
+    return words == (size_t)rows_of(shape) * s * g ? 0 : 4;
+}
+
+static uint32_t refuse_block(size_t words, uint32_t shape, uint32_t s, uint32_t g, uint32_t block)
+{
+    uint32_t number = refuse_image(words, shape, s, g);
+    if (number) return number;
+    return block < s * g ? 0 : 6;
+}
+
+static uint32_t refuse_record(const uint32_t *record)
+{
+    uint32_t n = record[INTERLEAVE] * record[GROUPS], waiting = record[WAITING];
+    const uint32_t *place = record + PLACE;
+    if (record[NEXT] >= n || waiting > PLACES) return 5;
+    for (unsigned i = 0; i < waiting; i++) {
+        if (place[i] >= n) return 5;
+        for (unsigned j = 0; j < i; j++) if (place[j] == place[i]) return 5;
+    }
+    for (unsigned i = waiting; i < PLACES; i++) if (place[i]) return 5;
+    return 0;
+}
+
+uint32_t foldgrebe_format(uint32_t *image, size_t words, uint32_t shape, uint32_t s, uint32_t g,
+                          uint32_t record[FOLDGREBE_RECORD_WORDS])
+{
+    uint32_t number = refuse_image(words, shape, s, g);
+    memset(record, 0, FOLDGREBE_RECORD_WORDS * sizeof *record);
+    if (number) return number;
+    memset(image, 0, words * sizeof *image);
+    record[SHAPE] = shape, record[INTERLEAVE] = s, record[GROUPS] = g;
+    return 0;
+}
+
+uint32_t foldgrebe_write(uint32_t *image, size_t words, uint32_t shape, uint32_t s, uint32_t g, uint32_t block,
+                         const uint32_t *data, size_t data_words)
+{
+    uint32_t number = refuse_block(words, shape, s, g, block);
+    if (number) return number;
+    if (data_words != data_of(shape)) return 7;
+    uint32_t *at = image + first_row(shape, s, block);
+    if (shape == 1) write_as(at, s, 1, data); else write_as(at, s, 2, data);
+    return 0;
+}
+
+uint32_t foldgrebe_read(const uint32_t *image, size_t words, uint32_t shape, uint32_t s, uint32_t g, uint32_t block,
+                        uint32_t *buffer, size_t buffer_words, uint32_t verdict[FOLDGREBE_VERDICT_WORDS])
+{
+    uint32_t number = refuse_block(words, shape, s, g, block);
+    outcome o = { 0, 0 };
+    if (number == 0 && buffer_words != data_of(shape)) number = 7;
+    if (number == 0) {
+        const uint32_t *at = image + first_row(shape, s, block);
+        o = shape == 1 ? read_as(at, s, 1, buffer) : read_as(at, s, 2, buffer);
+    }
+    verdict[0] = o.verdict, verdict[1] = o.count;
+    return number;
+}
+
+uint32_t foldgrebe_visit(uint32_t *image, size_t words, uint32_t shape, uint32_t s, uint32_t g, uint32_t block,
+                         uint32_t verdict[FOLDGREBE_VERDICT_WORDS])
+{
+    uint32_t number = refuse_block(words, shape, s, g, block);
+    outcome o = { 0, 0 };
+    if (number == 0) o = visit(image + first_row(shape, s, block), s, shape);
+    verdict[0] = o.verdict, verdict[1] = o.count;
+    return number;
+}
+
+uint32_t foldgrebe_ask(uint32_t record[FOLDGREBE_RECORD_WORDS], uint32_t block, uint32_t place[1])
+{
+    uint32_t number = refuse_layout(record[SHAPE], record[INTERLEAVE], record[GROUPS]);
+    *place = 0;
+    if (number == 0) number = refuse_record(record);
+    if (number) return number;
+    if (block >= record[INTERLEAVE] * record[GROUPS]) return 6;
+    uint32_t waiting = record[WAITING];
+    for (uint32_t i = 0; i < waiting; i++)
+        if (record[PLACE + i] == block) { *place = i + 1; return 0; }
+    if (waiting == PLACES) return 8;
+    record[PLACE + waiting] = block;
+    record[WAITING] = *place = waiting + 1;
+    return 0;
+}
+
+/* The block at place 1 leaves the list, and the others move up. */
+static void serve(uint32_t *record)
+{
+    memmove(record + PLACE, record + PLACE + 1, (PLACES - 1) * sizeof *record);
+    record[PLACE + PLACES - 1] = 0;
+    record[WAITING]--;
+}
+
+uint32_t foldgrebe_turn(uint32_t record[FOLDGREBE_RECORD_WORDS], uint32_t *image, size_t words,
+                        uint32_t report[2 + 2 * FOLDGREBE_VERDICT_WORDS])
+{
+    uint32_t shape = record[SHAPE], s = record[INTERLEAVE], g = record[GROUPS];
+    uint32_t number = refuse_image(words, shape, s, g);
+    memset(report, 0, 6 * sizeof *report);
+    if (number == 0) number = refuse_record(record);
+    if (number) return number;
+    uint32_t block = record[NEXT];
+    outcome o = visit(image + first_row(shape, s, block), s, shape);
+    report[0] = block, report[1] = o.verdict, report[2] = o.count;
+    record[NEXT] = block + 1 == s * g ? 0 : block + 1;
+    if (record[WAITING] == 0) return 0;
+    uint32_t asked = record[PLACE];
+    o = visit(image + first_row(shape, s, asked), s, shape);
+    report[3] = asked, report[4] = o.verdict, report[5] = o.count;
+    serve(record);
+    return 0;
+}

@@ -1,0 +1,4 @@
+mod Tests
+pub mod Ladder
+pub mod Layouts
+pub mod RoundTrip

@@ -1,0 +1,176 @@
+-- What is read from the file of an image is that image, and the file of what was read is the file. Assumes nothing.
+use Prim.Native.Nat.{ℕ, zero, suc, _+_, _-_, _*_, _/_, _%_, _≤_, _<_}
+use mathlib.Core.Path.{_≡_, refl, sym, ap, ap₂, _∙_, fun-ext}
+use mathlib.Core.List.{List, [], _∷_, _++_}
+use native.Mathlib.Omega.{arith}
+use borrow.Author.Tests.{eq-eqb, le-ltb}
+use lib.ListN.{length, getD}
+use lib.Seq.{getD-append-add}
+use Rattle.block.specs.Words.{listOf}
+use Rattle.block.proofs.Flips.{length-listOf, list-is}
+use Rattle.store.specs.Refusal.{_then_, layoutRefusal}
+use Rattle.file.specs.BigEndian.{pairOf, pairBytes, wordOf, wordBytes, wordAt}
+use Rattle.file.specs.Bytes.{bytesOf, fileOf, versionIn, fieldIn, shapeIn, interleaveIn, groupsIn, wordCount, wordIn, wordsIn}
+use Rattle.file.specs.Refusal.{longRung, frameRefusal, bodyRefusal, fileRefusal}
+use Rattle.file.proofs.Ladder.{Accepted, accepted, body-words}
+
+-- ---- numbers and their bytes
+
+pub pair-read : (n : ℕ) → pairOf (n / 256) (n % 256) ≡ n
+pair-read n = omega arith
+
+pub word-read : (n : ℕ) → wordOf (n / 16777216) (n / 65536 % 256) (n / 256 % 256) (n % 256) ≡ n
+word-read n = omega arith
+
+pub pair-bytes : (a b : ℕ) → b < 256 → pairBytes (pairOf a b) ≡ a ∷ b ∷ []
+pair-bytes a b h =
+    let first : pairOf a b / 256 ≡ a = omega arith in
+    let second : pairOf a b % 256 ≡ b = omega arith in
+    rw (first, second)
+
+pub word-bytes : (a b c d : ℕ) → b < 256 → c < 256 → d < 256 → wordBytes (wordOf a b c d) ≡ a ∷ b ∷ c ∷ d ∷ []
+word-bytes a b c d hb hc hd =
+    let first : wordOf a b c d / 16777216 ≡ a = omega arith in
+    let second : wordOf a b c d / 65536 % 256 ≡ b = omega arith in
+    let third : wordOf a b c d / 256 % 256 ≡ c = omega arith in
+    let fourth : wordOf a b c d % 256 ≡ d = omega arith in
+    rw (first, second, third, fourth)
+
+-- a word past the front of a list
+word-past : (front rest : List ℕ) (n : ℕ) → wordAt (front ++ rest) (length front + n) ≡ wordAt rest n
+word-past front rest n =
+    let size = length front in
+    let one : size + n + 1 ≡ size + (n + 1) = omega arith in
+    let two : size + n + 2 ≡ size + (n + 2) = omega arith in
+    let three : size + n + 3 ≡ size + (n + 3) = omega arith in
+    rw (one, two, three, getD-append-add front rest n 0, getD-append-add front rest (n + 1) 0, getD-append-add front rest (n + 2) 0, getD-append-add front rest (n + 3) 0)
+
+-- ---- from an image to its file and back
+
+length-bytes : (words : List ℕ) → length (bytesOf words) ≡ 4 * length words
+unfolding bytesOf
+length-bytes [] = refl
+length-bytes (word ∷ words) = omega (arith, length-bytes words)
+
+word-back : (words : List ℕ) (k : ℕ) → k < length words → getD words k 0 ≡ wordAt (bytesOf words) (4 * k)
+unfolding bytesOf
+word-back [] k h = absurd (omega arith)
+word-back (word ∷ words) zero h = sym (word-read word)
+word-back (word ∷ words) (suc k) h =
+    let next : 4 * suc k ≡ 4 + 4 * k = omega arith in
+    word-back words k (omega arith) ∙ sym (word-past (wordBytes word) (bytesOf words) (4 * k)) ∙ ap (wordAt (wordBytes word ++ bytesOf words)) (sym next)
+
+then-none : (number : ℕ) → number then 0 ≡ number
+then-none zero = refl
+then-none (suc number) = refl
+
+module _ (shape s g : ℕ) (words : List ℕ) where
+  headOf : List ℕ
+  headOf = 1 ∷ wordBytes (4 + 4 * length words) ++ shape ∷ s ∷ pairBytes g
+
+  pub length-file : length (fileOf shape s g words) ≡ 9 + 4 * length words
+  unfolding fileOf
+  length-file = omega (arith, length-bytes words)
+
+  pub field-back : fieldIn (fileOf shape s g words) ≡ 4 + 4 * length words
+  unfolding fileOf
+  field-back = word-read (4 + 4 * length words)
+
+  pub groups-back : groupsIn (fileOf shape s g words) ≡ g
+  unfolding fileOf
+  groups-back = pair-read g
+
+  -- what is read of an image's file is the image
+  pub words-back : wordsIn (fileOf shape s g words) ≡ words
+  unfolding wordsIn fileOf headOf
+  words-back =
+      let count : wordCount (length (fileOf shape s g words)) ≡ length words = omega (arith, length-file) in
+      ap (λ (n : ℕ). listOf n (wordIn (fileOf shape s g words))) count
+      ∙ sym (list-is (length words) words (wordIn (fileOf shape s g words)) refl
+      (λ k h. word-back words k h ∙ sym (word-past headOf (bytesOf words) (4 * k))))
+
+  version-back : versionIn (fileOf shape s g words) ≡ 1
+  unfolding fileOf
+  version-back = refl
+
+  frame-back : frameRefusal (fileOf shape s g words) ≡ longRung (9 + 4 * length words)
+  unfolding frameRefusal
+  frame-back =
+      let file = fileOf shape s g words in
+      let field : fieldIn file ≡ length file - 5 = omega (arith, field-back, length-file) in
+      let long : 9 ≤ length file = omega (arith, length-file) in
+      rw (version-back, le-ltb (length file) 9 long, eq-eqb (fieldIn file) (length file - 5) field, length-file) (then-none (longRung (9 + 4 * length words)))
+
+  body-back : bodyRefusal (length (fileOf shape s g words) - 9) shape s g ≡ layoutRefusal (length words) shape s g
+  body-back =
+      let body : length (fileOf shape s g words) - 9 ≡ 4 * length words = omega (arith, length-file) in
+      let even : 4 * length words % 4 ≡ 0 = omega arith in
+      let whole : 4 * length words / 4 ≡ length words = omega arith in
+      rw body (body-words (4 * length words) shape s g even ∙ ap (λ (n : ℕ). layoutRefusal n shape s g) whole)
+
+  -- and the file is refused as the image's layout is, but for its length
+  pub refusal-back : fileRefusal (fileOf shape s g words) ≡ longRung (9 + 4 * length words) then layoutRefusal (length words) shape s g
+  unfolding fileRefusal fileOf
+  refusal-back = rw (frame-back, groups-back) (ap (λ (n : ℕ). longRung (9 + 4 * length words) then n) body-back)
+
+-- ---- from a file to its image and back
+
+-- every byte is below 256
+abbrev pub Bytes : List ℕ → Type 0
+Bytes bytes = (i : ℕ) → getD bytes i 0 < 256
+
+bytes-back : (n : ℕ) (bytes : List ℕ) → Bytes bytes → length bytes ≡ 4 * n → bytesOf (listOf n (λ k. wordAt bytes (4 * k))) ≡ bytes
+unfolding bytesOf listOf
+bytes-back zero [] small e = refl
+bytes-back zero (a ∷ bytes) small e = absurd (omega arith)
+bytes-back (suc n) [] small e = absurd (omega arith)
+bytes-back (suc n) (a ∷ []) small e = absurd (omega arith)
+bytes-back (suc n) (a ∷ b ∷ []) small e = absurd (omega arith)
+bytes-back (suc n) (a ∷ b ∷ c ∷ []) small e = absurd (omega arith)
+bytes-back (suc n) (a ∷ b ∷ c ∷ d ∷ bytes) small e =
+    ap₂ (λ (word rest : List ℕ). word ++ rest) (word-bytes a b c d (small 1) (small 2) (small 3))
+    (ap (λ (f : ℕ → ℕ). bytesOf (listOf n f)) (fun-ext shifted) ∙ bytes-back n bytes (λ i. small (suc (suc (suc (suc i))))) (omega arith))
+  where
+    shifted : (k : ℕ) → wordAt (a ∷ b ∷ c ∷ d ∷ bytes) (4 * suc k) ≡ wordAt bytes (4 * k)
+    shifted k =
+        let next : 4 * suc k ≡ 4 + 4 * k = omega arith in
+        ap (wordAt (a ∷ b ∷ c ∷ d ∷ bytes)) next ∙ word-past (a ∷ b ∷ c ∷ d ∷ []) bytes (4 * k)
+
+-- a file of at least nine bytes
+data Headed : List ℕ → Type 0 where
+  headed : (a b c d e f g h i : ℕ) (rest : List ℕ) → Headed (a ∷ b ∷ c ∷ d ∷ e ∷ f ∷ g ∷ h ∷ i ∷ rest)
+
+head-of : (bytes : List ℕ) → 9 ≤ length bytes → Headed bytes
+head-of [] l = absurd (omega arith)
+head-of (a ∷ []) l = absurd (omega arith)
+head-of (a ∷ b ∷ []) l = absurd (omega arith)
+head-of (a ∷ b ∷ c ∷ []) l = absurd (omega arith)
+head-of (a ∷ b ∷ c ∷ d ∷ []) l = absurd (omega arith)
+head-of (a ∷ b ∷ c ∷ d ∷ e ∷ []) l = absurd (omega arith)
+head-of (a ∷ b ∷ c ∷ d ∷ e ∷ f ∷ []) l = absurd (omega arith)
+head-of (a ∷ b ∷ c ∷ d ∷ e ∷ f ∷ g ∷ []) l = absurd (omega arith)
+head-of (a ∷ b ∷ c ∷ d ∷ e ∷ f ∷ g ∷ h ∷ []) l = absurd (omega arith)
+head-of (a ∷ b ∷ c ∷ d ∷ e ∷ f ∷ g ∷ h ∷ i ∷ rest) l = headed a b c d e f g h i rest
+
+length-words : (bytes : List ℕ) → length (wordsIn bytes) ≡ wordCount (length bytes)
+unfolding wordsIn
+length-words bytes = length-listOf (wordCount (length bytes)) (wordIn bytes)
+
+back : (bytes : List ℕ) → Bytes bytes → Accepted bytes → Headed bytes
+    → fileOf (shapeIn bytes) (interleaveIn bytes) (groupsIn bytes) (wordsIn bytes) ≡ bytes
+unfolding fileOf wordsIn
+back bytes small ok (headed a b c d e f g h i rest) =
+    let count = wordCount (length bytes) in
+    let size : length rest ≡ 4 * count = omega (arith, ok .body) in
+    let field : 4 + 4 * length (wordsIn bytes) ≡ wordOf b c d e = omega (arith, length-words bytes, ok .frame .field) in
+    ap₂ (λ (head words : List ℕ). head ++ words)
+    (ap₂ (λ (front groups : List ℕ). front ++ f ∷ g ∷ groups)
+    (ap₂ (λ (version : ℕ) (field : List ℕ). version ∷ field) (sym (ok .frame .version)) (ap wordBytes field ∙ word-bytes b c d e (small 2) (small 3) (small 4)))
+    (pair-bytes h i (small 8)))
+    (ap (λ (word : ℕ → ℕ). bytesOf (listOf count word)) (fun-ext (λ k. word-past (a ∷ b ∷ c ∷ d ∷ e ∷ f ∷ g ∷ h ∷ i ∷ []) rest (4 * k)))
+    ∙ bytes-back count rest (λ k. small (suc (suc (suc (suc (suc (suc (suc (suc (suc k)))))))))) size)
+
+-- the file of what was read from a file that is accepted is that file
+pub file-back : (bytes : List ℕ) → Bytes bytes → fileRefusal bytes ≡ 0
+    → fileOf (shapeIn bytes) (interleaveIn bytes) (groupsIn bytes) (wordsIn bytes) ≡ bytes
+file-back bytes small e = let ok = accepted bytes e in back bytes small ok (head-of bytes (ok .frame .least))

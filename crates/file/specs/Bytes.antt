@@ -1,0 +1,48 @@
+-- Byte 0 of an image file is the version, 1. Bytes 1 to 4 hold, big-endian, the number of bytes after byte 4. Then stand the shape,
+-- one byte, s, one byte, G, two bytes, big-endian, and then the words of the image, big-endian. Assumes nothing.
+use Prim.Native.Nat.{ℕ, _+_, _-_, _*_, _/_, min}
+use mathlib.Core.List.{List, [], _∷_, _++_}
+use lib.ListN.{length, getD}
+use Rattle.block.specs.Words.{listOf}
+use Rattle.block.specs.Stores.{stores}
+use Rattle.file.specs.BigEndian.{pairBytes, wordBytes, pairAt, wordAt}
+
+-- ---- from an image to its file
+
+unfoldable pub bytesOf : List ℕ → List ℕ
+bytesOf [] = []
+bytesOf (word ∷ words) = wordBytes word ++ bytesOf words
+
+unfoldable pub fileOf : ℕ → ℕ → ℕ → List ℕ → List ℕ
+fileOf shape s g words = 1 ∷ wordBytes (4 + 4 * length words) ++ shape ∷ s ∷ pairBytes g ++ bytesOf words
+
+-- ---- from a file to its image: what the bytes say
+
+abbrev pub versionIn : List ℕ → ℕ
+versionIn bytes = getD bytes 0 0
+
+abbrev pub fieldIn : List ℕ → ℕ
+fieldIn bytes = wordAt bytes 1
+
+abbrev pub shapeIn : List ℕ → ℕ
+shapeIn bytes = getD bytes 5 0
+
+abbrev pub interleaveIn : List ℕ → ℕ
+interleaveIn bytes = getD bytes 6 0
+
+abbrev pub groupsIn : List ℕ → ℕ
+groupsIn bytes = pairAt bytes 7
+
+-- how many whole words stand after the header of a file of some length, and what word k is
+abbrev pub wordCount : ℕ → ℕ
+wordCount len = (len - 9) / 4
+
+abbrev pub wordIn : List ℕ → ℕ → ℕ
+wordIn bytes k = wordAt bytes (9 + 4 * k)
+
+unfoldable pub wordsIn : List ℕ → List ℕ
+wordsIn bytes = listOf (wordCount (length bytes)) (wordIn bytes)
+
+-- a lent image with the words copied to it, as many as fit; the words past them are as they were
+unfoldable pub wordsInto : List ℕ → List ℕ → List ℕ
+wordsInto bytes image = stores image (λ k. k) (wordIn bytes) (min (wordCount (length bytes)) (length image))

@@ -1,0 +1,5 @@
+pub mod BigEndian
+pub mod Bytes
+pub mod Refusal
+pub mod Reason
+pub mod Header

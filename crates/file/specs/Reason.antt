@@ -1,0 +1,43 @@
+-- The refusals of a file in plain statements, in the order in which they are checked. Assumes nothing.
+use Prim.Native.Nat.{ℕ, _*_, _<_}
+use mathlib.Core.Path.{_≡_}
+use mathlib.Core.List.{List, [], _∷_}
+use lib.ListN.{length, drop}
+use Rattle.store.specs.Layout.{blocks}
+use Rattle.store.specs.Shapes.{rowsOf}
+use Rattle.store.specs.Reason.{Rule, noShape, badInterleave, badGroups}
+use Rattle.file.specs.Bytes.{versionIn, fieldIn, shapeIn, interleaveIn, groupsIn}
+
+-- file above 32,768 bytes
+abbrev pub tooLong : List ℕ → Rule
+tooLong bytes = record { number = 11; reason = 32768 < length bytes }
+
+-- file below 9 bytes
+abbrev pub tooShort : List ℕ → Rule
+tooShort bytes = record { number = 10; reason = length bytes < 9 }
+
+-- file version is not 1
+abbrev pub badVersion : List ℕ → Rule
+badVersion bytes = record { number = 9; reason = versionIn bytes ≡ 1 → ⊥ }
+
+-- its length field is wrong: it is not the number of bytes after byte 4
+abbrev pub badField : List ℕ → Rule
+badField bytes = record { number = 10; reason = fieldIn bytes ≡ length (drop 5 bytes) → ⊥ }
+
+-- the bytes after the header are not 4·rows·N
+abbrev pub badBody : List ℕ → Rule
+badBody bytes =
+    record { number = 4; reason = length (drop 9 bytes) ≡ 4 * (rowsOf (shapeIn bytes) * blocks (interleaveIn bytes) (groupsIn bytes)) → ⊥ }
+
+-- 11, 10, 9, 10, 1, 2, 3, 4
+abbrev pub fileRules : List ℕ → List Rule
+fileRules bytes =
+    tooLong bytes
+    ∷ tooShort bytes
+    ∷ badVersion bytes
+    ∷ badField bytes
+    ∷ noShape (shapeIn bytes)
+    ∷ badInterleave (interleaveIn bytes)
+    ∷ badGroups (interleaveIn bytes) (groupsIn bytes)
+    ∷ badBody bytes
+    ∷ []

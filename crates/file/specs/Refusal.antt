@@ -1,0 +1,43 @@
+-- A file is checked for 11, 10 (below 9 bytes), 9, 10 (length field), 1, 2, 3 and 4, and the first that applies wins.
+-- Here 4 compares the bytes after the header with 4·rows·N. Assumes nothing.
+use Prim.Native.Nat.{ℕ, _-_, _*_}
+use mathlib.Core.Bool.{not}
+use mathlib.Core.List.{List}
+use lib.Dec.{ltb, eqb}
+use lib.ListN.{length}
+use Rattle.store.specs.Layout.{blocks}
+use Rattle.store.specs.Shapes.{rowsOf}
+use Rattle.store.specs.Refusal.{_when_else_, _then_, geometryRefusal}
+use Rattle.file.specs.Bytes.{versionIn, fieldIn, shapeIn, interleaveIn, groupsIn}
+
+-- 11: file above 32,768 bytes
+abbrev pub longRung : ℕ → ℕ
+longRung len = 11 when ltb 32768 len else 0
+
+-- 10: file below 9 bytes
+abbrev pub shortRung : ℕ → ℕ
+shortRung len = 10 when ltb len 9 else 0
+
+-- 9: file version is not 1
+abbrev pub versionRung : ℕ → ℕ
+versionRung version = 9 when not (eqb version 1) else 0
+
+-- 10: the length field is not the number of bytes after byte 4
+abbrev pub fieldRung : ℕ → ℕ → ℕ
+fieldRung field len = 10 when not (eqb field (len - 5)) else 0
+
+-- 4: the bytes after the header are not 4·rows·N
+abbrev pub bodyRung : ℕ → ℕ → ℕ → ℕ → ℕ
+bodyRung body shape s g = 4 when not (eqb body (4 * (rowsOf shape * blocks s g))) else 0
+
+-- 11, 10, 9, 10: what makes it an image file
+unfoldable pub frameRefusal : List ℕ → ℕ
+frameRefusal bytes =
+    longRung (length bytes) then shortRung (length bytes) then versionRung (versionIn bytes) then fieldRung (fieldIn bytes) (length bytes)
+
+-- 1, 2, 3, 4: what the header says of the image, and the bytes after it
+unfoldable pub bodyRefusal : ℕ → ℕ → ℕ → ℕ → ℕ
+bodyRefusal body shape s g = geometryRefusal shape s g then bodyRung body shape s g
+
+unfoldable pub fileRefusal : List ℕ → ℕ
+fileRefusal bytes = frameRefusal bytes then bodyRefusal (length bytes - 9) (shapeIn bytes) (interleaveIn bytes) (groupsIn bytes)

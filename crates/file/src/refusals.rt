@@ -1,0 +1,64 @@
+// The refusals of a file, in their order: the first that applies wins.
+ghost use mathlib.Core.Path.{_≡_};
+ghost use Prim.Native.Nat.{_+_, _<_};
+ghost use lib.ListN.{length};
+ghost use Rattle.file.specs.BigEndian.{pairOf, wordAt};
+ghost use Rattle.file.specs.Refusal.{frameRefusal, bodyRefusal};
+
+// The number that one byte holds.
+pub(crate) fn wide(byte: u8) -> u32
+    ensures { λ r. ⌜ r ≡ byte ⌝ }
+{
+    byte as u32
+}
+
+// The number that two bytes hold.
+pub(crate) fn pair_of(high: u8, low: u8) -> u32
+    ensures { λ r. ⌜ (r ≡ pairOf high low) × (r < 65536) ⌝ }
+{
+    wide(high) * 256 + wide(low)
+}
+
+// The word at a place.
+pub(crate) fn word_at(bytes: &[u8], at: usize) -> u32
+    requires { ⌜ at + 3 < length (now bytes) ⌝ }
+    ensures { λ r. ⌜ r ≡ wordAt (now (bytes .entry)) at ⌝ }
+{
+    pair_of(bytes[at], bytes[at + 1]) * 65536 + pair_of(bytes[at + 2], bytes[at + 3])
+}
+
+// 11, 10, 9 and 10: what makes it an image file.
+pub(crate) fn check_frame(bytes: &[u8]) -> u32
+    ensures { λ r. ⌜ r ≡ frameRefusal (now (bytes .entry)) ⌝ }
+{
+    let len = bytes.len();
+    if 32768 < len {
+        return 11;
+    }
+    if len < 9 {
+        return 10;
+    }
+    let version = bytes[0];
+    if version != 1 {
+        return 9;
+    }
+    let field = word_at(bytes, 1) as usize;
+    if field != len - 5 {
+        return 10;
+    }
+    0
+}
+
+// 1, 2, 3 and 4: the layout, and the bytes after the header.
+pub(crate) fn check_body(body: usize, shape: u32, s: u32, g: u32) -> u32
+    ensures { λ r. ⌜ r ≡ bodyRefusal body shape s g ⌝ }
+{
+    let refused = store::check_geometry(shape, s, g);
+    if refused != 0 {
+        return refused;
+    }
+    if body % 4 != 0 {
+        return 4;
+    }
+    store::check_layout(body / 4, shape, s, g)
+}

@@ -1,0 +1,51 @@
+// Write, read and visit for C.
+ghost use Rattle.foldgrebe.specs.Calls.{Wrote, Gave, Saw};
+use super::answers::answer_number;
+use super::answers::put_verdict;
+
+#[no_mangle]
+pub extern "C" fn foldgrebe_write(
+    image: &mut [u32],
+    shape: u32,
+    s: u32,
+    g: u32,
+    block: u32,
+    list: &[u32],
+) -> u32
+    ensures { λ r. ⌜ Wrote (now (image .entry)) shape s g block (now (list .entry)) r (now (image .exit)) ⌝ }
+{
+    answer_number(store::write(image, shape, s, g, block, list))
+}
+
+#[no_mangle]
+pub extern "C" fn foldgrebe_read(
+    image: &[u32],
+    shape: u32,
+    s: u32,
+    g: u32,
+    block: u32,
+    buffer: &mut [u32],
+    verdict: &mut [u32; 2],
+) -> u32
+    ensures { λ r. ⌜ Gave (now (image .entry)) shape s g block (now (buffer .entry)) r (now (buffer .exit)) (now (verdict .exit)) ⌝ }
+{
+    let answer = store::read(image, shape, s, g, block, buffer);
+    put_verdict(verdict, answer);
+    answer_number(answer)
+}
+
+#[no_mangle]
+pub extern "C" fn foldgrebe_visit(
+    image: &mut [u32],
+    shape: u32,
+    s: u32,
+    g: u32,
+    block: u32,
+    verdict: &mut [u32; 2],
+) -> u32
+    ensures { λ r. ⌜ Saw (now (image .entry)) shape s g block r (now (image .exit)) (now (verdict .exit)) ⌝ }
+{
+    let answer = store::visit(image, shape, s, g, block);
+    put_verdict(verdict, answer);
+    answer_number(answer)
+}

@@ -1,0 +1,6 @@
+pub mod Decimal
+pub mod Pages
+pub mod Counts
+pub mod Visited
+pub mod Reported
+pub mod Whole

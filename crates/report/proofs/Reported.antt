@@ -1,0 +1,65 @@
+-- What a report prints and leaves, from what its steps gave. Assumes nothing.
+use Prim.Native.Nat.{ℕ, _-_, _≤_, _<_, zero, suc}
+use mathlib.Core.Bool.{Bool, true, false, cond}
+use mathlib.Core.Path.{_≡_, refl, sym, subst, _∙_}
+use mathlib.Core.List.{List, _++_}
+use native.Mathlib.Nat.{min-eq-left}
+use native.Mathlib.Omega.{arith}
+use borrow.Author.Tests.{le-leb, lt-leb}
+use lib.ListN.{length, drop}
+use Rattle.block.specs.Stores.{length-stores, stores-hit}
+use Rattle.block.proofs.Flips.{list-is}
+use Rattle.store.specs.Layout.{blocks}
+use Rattle.store.specs.Refusal.{layoutRefusal}
+use Rattle.file.specs.declared.Header.the-variants.{Refused, Image}
+use Rattle.file.specs.Bytes.{shapeIn, interleaveIn, groupsIn, wordCount, wordIn, wordsIn, wordsInto}
+use Rattle.file.specs.Refusal.{fileRefusal}
+use Rattle.file.specs.Header.{headerIf, headerOf}
+use Rattle.report.specs.Page.{Page, page, written, writtenAll}
+use Rattle.report.specs.Lines.{refusalLine}
+use Rattle.report.specs.Report.{visitedBelow, imageReport, reportOf, room?, Reports}
+use Rattle.report.proofs.Pages.{all-inside}
+use Rattle.file.proofs.Ladder.{accepted, body-words, frame-passed}
+
+-- ---- the three ways of a report
+
+module _ (bytes image out : List ℕ) (next : ℕ) (printed : List ℕ) where
+  pub report-refused : (number : ℕ) → headerOf bytes ≡ Refused number → page printed next ≡ written (refusalLine number) (page out 0)
+      → Reports bytes image out next image printed
+  unfolding reportOf writtenAll
+  report-refused number e w = record { prints = rw e w; leaves = rw e }
+
+  module _ (shape s g : ℕ) (e : headerOf bytes ≡ Image shape s g) where
+    pub report-visited : (after : List ℕ) → wordCount (length bytes) ≤ length image
+        → page printed next ≡ writtenAll (imageReport (wordsIn bytes) shape s g) (page out 0)
+        → after ≡ visitedBelow (wordsIn bytes) shape s g (blocks s g) ++ drop (wordCount (length bytes)) image
+        → Reports bytes image out next after printed
+    unfolding reportOf
+    report-visited after h w a =
+        record {
+          prints = rw (e, le-leb (wordCount (length bytes)) (length image) h) w;
+          leaves = rw (e, le-leb (wordCount (length bytes)) (length image) h) a;
+        }
+
+pub report-no-room : (bytes image out : List ℕ) (shape s g : ℕ) → headerOf bytes ≡ Image shape s g → length image < wordCount (length bytes)
+    → Reports bytes image out 0 image out
+unfolding reportOf
+report-no-room bytes image out shape s g e h =
+    record {
+      prints = rw (e, lt-leb (wordCount (length bytes)) (length image) h);
+      leaves = rw (e, lt-leb (wordCount (length bytes)) (length image) h);
+    }
+
+-- ---- where a report ends
+
+cond-inside : (b : Bool) (p q : Page) → p .next ≤ length (p .bytes) → q .next ≤ length (q .bytes)
+    → cond b p q .next ≤ length (cond b p q .bytes)
+cond-inside true p q h k = h
+cond-inside false p q h k = k
+
+pub report-inside : {bytes image out after printed : List ℕ} {next : ℕ} → Reports bytes image out next after printed → next ≤ length printed
+report-inside {bytes} {image} {out} {after} {printed} {next} r =
+    subst (λ (p : Page). p .next ≤ length (p .bytes)) (sym (r .prints))
+    (cond-inside (room? (headerOf bytes) bytes image) (writtenAll (reportOf bytes) (page out 0)) (page out 0)
+    (all-inside (reportOf bytes) (page out 0) (omega arith))
+    (omega arith))

@@ -1,0 +1,186 @@
+-- A report has at most 16,384 bytes, so that a buffer of that size holds it whole. Assumes nothing.
+use Prim.Native.Nat.{ℕ, zero, suc, _+_, _-_, _*_, _^_, _≤_, _<_}
+use Prim.Native.String.{String}
+use mathlib.Core.Bool.{Bool, true, false, cond, _&&_}
+use mathlib.Core.Path.{_≡_, refl, ap, _∙_}
+use mathlib.Core.List.{List, [], _∷_, _++_}
+use mathlib.Core.Logic.{⊎-elim}
+use native.Mathlib.Nat.{zero-add, mul-le-mul-left}
+use native.Mathlib.Omega.{arith}
+use borrow.Author.Tests.{le-leb}
+use lib.Dec.{T, leb, leb→le}
+use lib.ListN.{length, drop, length-append}
+use Rattle.block.specs.declared.Shape.{Shape}
+use Rattle.block.specs.Shape.{rows}
+use Rattle.block.specs.declared.Verdict.{Verdict}
+use Rattle.block.specs.declared.Verdict.the-variants.{Clean, Mended, Lost}
+use Rattle.block.specs.Verdict.{verdictCount}
+use Rattle.store.specs.Layout.{blocks}
+use Rattle.store.specs.Reason.{Rule, FirstOf}
+use Rattle.store.proofs.Ladder.{Geometry}
+use Rattle.store.proofs.Shapes.{shape-one, shape-two}
+use Rattle.file.specs.declared.Header.{Header}
+use Rattle.file.specs.declared.Header.the-variants.{Image}
+use Rattle.report.specs.declared.Tally.{Tally}
+use Rattle.report.specs.Text.{ascii, decimal}
+use Rattle.file.specs.Bytes.{shapeIn, interleaveIn, groupsIn, wordCount, wordsIn}
+use Rattle.file.specs.Refusal.{fileRefusal}
+use Rattle.file.specs.Reason.{fileRules}
+use Rattle.file.specs.Header.{headerIf, headerOf}
+use Rattle.report.specs.Page.{page, writtenAll, joined}
+use Rattle.report.specs.Lines.{named, lineEnd, refusalLine, imageLine, verdictText, blockLine, totalLine}
+use Rattle.report.specs.Report.{blockLines, tallyBelow, verdictAt, imageReport, reportFor, reportOf, room?, Reports}
+use Rattle.report.proofs.Counts.{Within, verdict-most, tally-within}
+use Rattle.report.proofs.Decimal.{decimal-short}
+use Rattle.file.proofs.Ladder.{Accepted, accepted, file-first}
+use Rattle.report.proofs.Pages.{all-fit}
+
+-- ---- the lines
+
+-- a text of at most so many bytes
+record Short (text : List ℕ) (most : ℕ) : Type 0 where
+  few : length text ≤ most
+
+both : {a b : List ℕ} {m n : ℕ} → Short a m → Short b n → Short (a ++ b) (m + n)
+both {a} {b} {m} {n} h k = record { few = omega (arith, length-append a b, h .few, k .few) }
+
+-- a text and a number of at most k + 1 digits
+named-short : (text : String) (k n : ℕ) → n < 10 ^ suc k → Short (named text n) (length (ascii text) + suc k)
+named-short text k n h = record { few = omega (arith, length-append (ascii text) (decimal n), decimal-short k n h) }
+
+one-end : Short lineEnd 1
+one-end = record { few = omega arith }
+
+refusal-short : (number : ℕ) → number < 100 → Short (refusalLine number) 11
+unfolding refusalLine
+refusal-short number h = both (named-short "refused " 1 number h) one-end
+
+image-short : (shape s g n : ℕ) → shape < 10000 → s < 10000 → g < 10000 → n < 10000 → Short (imageLine shape s g n) 57
+unfolding imageLine
+image-short shape s g n hshape hs hg hn =
+    both
+    (both (both (both (named-short "image shape " 3 shape hshape) (named-short " interleave " 3 s hs)) (named-short " groups " 3 g hg)) (named-short " blocks " 3 n hn))
+    one-end
+
+verdict-short : (v : Verdict) → verdictCount v ≤ 32 → Short (verdictText v) 10
+verdict-short Clean h = record { few = omega (arith, named-short " clean " 1 0 (omega arith) .few) }
+verdict-short (Mended m) h = named-short " mended " 1 m (omega arith)
+verdict-short (Lost m) h = record { few = omega (arith, named-short " lost " 1 m (omega arith) .few) }
+
+block-short : (block : ℕ) (v : Verdict) → block < 10000 → verdictCount v ≤ 32 → Short (blockLine block v) 21
+unfolding blockLine
+block-short block v h c = both (both (named-short "block " 3 block h) (verdict-short v c)) one-end
+
+total-short : (n : ℕ) (tally : Tally) → n ≤ 4096 → Within n tally → Short (totalLine tally) 51
+unfolding totalLine
+total-short n tally h w =
+    both
+    (both
+    (both
+    (both (named-short "total clean " 3 (tally .clean) (omega (arith, w .clean))) (named-short " mended " 3 (tally .mended) (omega (arith, w .mended))))
+    (named-short " lost " 3 (tally .lost) (omega (arith, w .lost))))
+    (named-short " bits " 5 (tally .bits) (omega (arith, w .bits))))
+    one-end
+
+-- ---- the report of an image
+
+joined-last : (lines : List (List ℕ)) (line : List ℕ) → length (joined (lines ++ line ∷ [])) ≡ length (joined lines) + length line
+unfolding joined
+joined-last [] line = omega (arith, length-append line [])
+joined-last (first ∷ lines) line =
+    let more = length-append first (joined (lines ++ line ∷ [])) in
+    let less = length-append first (joined lines) in
+    omega (arith, joined-last lines line)
+
+blocks-short : (image : List ℕ) (shape s g n : ℕ) → n ≤ 4096 → length (joined (blockLines image shape s g n)) ≤ 21 * n
+unfolding blockLines joined
+blocks-short image shape s g zero h = omega arith
+blocks-short image shape s g (suc n) h =
+    let line = blockLine n (verdictAt image shape s g n) in
+    let last = joined-last (blockLines image shape s g n) line in
+    let short = block-short n (verdictAt image shape s g n) (omega arith) (verdict-most image shape s g n) .few in
+    omega (arith, blocks-short image shape s g n (omega arith))
+
+report-short : (image : List ℕ) (shape s g : ℕ) → Geometry shape s g → blocks s g ≤ 511 → length (joined (imageReport image shape s g)) ≤ 16384
+unfolding imageReport joined
+report-short image shape s g ok few =
+    let n = blocks s g in
+    let known : shape ≤ 2 = ⊎-elim (λ e. omega arith) (λ e. omega arith) (ok .shape-known) in
+    let groups : g ≤ n = omega (arith, mul-le-mul-left g (ok .s-first)) in
+    let total = totalLine (tallyBelow image shape s g n) in
+    let first = imageLine shape s g n in
+    let rest = blockLines image shape s g n ++ total ∷ [] in
+    omega (
+      arith,
+      length-append first (joined rest),
+      image-short shape s g n (omega arith) (omega (arith, ok .s-last)) (omega arith) (omega arith) .few,
+      joined-last (blockLines image shape s g n) total,
+      blocks-short image shape s g n (omega arith),
+      total-short n (tallyBelow image shape s g n) (omega arith) (tally-within image shape s g n) .few,
+    )
+
+-- ---- the report of a file
+
+-- a file has room for at most 511 blocks
+few-blocks : (bytes : List ℕ) → Accepted bytes → blocks (interleaveIn bytes) (groupsIn bytes) ≤ 511
+few-blocks bytes ok =
+    ⊎-elim
+    (λ e. omega (arith, ok .frame .most, ok .body ∙ ap (λ (shape : Shape). 4 * (rows shape * blocks (interleaveIn bytes) (groupsIn bytes))) (shape-one (shapeIn bytes) e)))
+    (λ e. omega (arith, ok .frame .most, ok .body ∙ ap (λ (shape : Shape). 4 * (rows shape * blocks (interleaveIn bytes) (groupsIn bytes))) (shape-two (shapeIn bytes) (λ q. omega arith))))
+    (ok .geometry .shape-known)
+
+-- no rule has a number above 11
+abbrev low? : List Rule → Bool
+low? [] = true
+low? (rule ∷ rules) = leb (rule .number) 11 && low? rules
+
+low-both : (a b : Bool) → T (a && b) → T a × T b
+low-both true b t = (tt, t)
+low-both false b t = absurd t
+
+first-low : (rules : List Rule) (given : ℕ) → T (low? rules) → FirstOf rules given → given ≤ 11
+first-low [] given t e = omega arith
+first-low (rule ∷ rules) given t first =
+    let low = low-both (leb (rule .number) 11) (low? rules) t in
+    ⊎-elim (λ r. omega (arith, r .1, leb→le (rule .number) 11 (low .0))) (λ r. first-low rules given (low .1) (r .1)) first
+
+number-most : (bytes : List ℕ) → fileRefusal bytes ≤ 11
+number-most bytes = first-low (fileRules bytes) (fileRefusal bytes) tt (file-first bytes)
+
+module _ (bytes : List ℕ) where
+  abbrev found : Header
+  found = Image (shapeIn bytes) (interleaveIn bytes) (groupsIn bytes)
+
+  pub file-short : length (joined (reportOf bytes)) ≤ 16384
+  unfolding reportOf headerOf joined
+  file-short = by (fileRefusal bytes) refl
+    where
+      by : (n : ℕ) → fileRefusal bytes ≡ n → length (joined (reportFor (headerIf n found) (wordsIn bytes))) ≤ 16384
+      by zero e =
+          let ok = accepted bytes e in
+          report-short (wordsIn bytes) (shapeIn bytes) (interleaveIn bytes) (groupsIn bytes) (ok .geometry) (few-blocks bytes ok)
+      by (suc n) e =
+          let most = number-most bytes in
+          let short = refusal-short (suc n) (omega arith) .few in
+          omega (arith, length-append (refusalLine (suc n)) [])
+
+  file-room : (image : List ℕ) → 8189 ≤ length image → room? (headerOf bytes) bytes image ≡ true
+  unfolding headerOf
+  file-room image h = by (fileRefusal bytes) refl
+    where
+      by : (n : ℕ) → fileRefusal bytes ≡ n → room? (headerIf n found) bytes image ≡ true
+      by zero e = le-leb (wordCount (length bytes)) (length image) (omega (arith, accepted bytes e .frame .most))
+      by (suc n) e = refl
+
+-- with 8,189 words and 16,384 bytes lent, the report is there whole, from byte 0 on, and the bytes past it are as they were
+pub report-whole : {bytes image out after printed : List ℕ} {next : ℕ} → Reports bytes image out next after printed
+    → 8189 ≤ length image
+    → 16384 ≤ length out
+    → page printed next ≡ page (joined (reportOf bytes) ++ drop (length (joined (reportOf bytes))) out) (length (joined (reportOf bytes)))
+report-whole {bytes} {image} {out} {after} {printed} {next} r h k =
+    let text = joined (reportOf bytes) in
+    let short = file-short bytes in
+    r .prints
+    ∙ ap (λ (b : Bool). cond b (writtenAll (reportOf bytes) (page out 0)) (page out 0)) (file-room bytes image h)
+    ∙ all-fit (reportOf bytes) out 0 (omega arith)
+    ∙ ap (λ (n : ℕ). page (text ++ drop n out) n) (zero-add (length text))

@@ -1,0 +1,58 @@
+-- `report::lines::put_verdict` meets its contract: each verdict has its text. Assumes nothing.
+use native.Mathlib.Omega.{arith}
+use borrow.Author.Needs.{needs}
+use Rattle.report.proofs.lines.put_verdict.Statement.{statement}
+use Rattle.report.proofs.lines.put_verdict.Tie as tie
+
+enum-told : tie.Need-enum-told
+enum-told c = search needs
+
+slice-aggregate-put-named : tie.Need-slice-aggregate-put-named
+slice-aggregate-put-named c = search needs
+
+put-named-requires : tie.Need-put-named-requires
+put-named-requires c κs = search needs
+
+enum-known-verdict : tie.Need-enum-known-verdict
+enum-known-verdict c = search needs
+
+slice-aggregate-put-named-2 : tie.Need-slice-aggregate-put-named-2
+slice-aggregate-put-named-2 c = search needs
+
+put-named-requires-2 : tie.Need-put-named-requires-2
+put-named-requires-2 c κs = search needs
+
+enum-known-verdict-2 : tie.Need-enum-known-verdict-2
+enum-known-verdict-2 c = search needs
+
+slice-aggregate-put-named-3 : tie.Need-slice-aggregate-put-named-3
+slice-aggregate-put-named-3 c = search needs
+
+put-named-requires-3 : tie.Need-put-named-requires-3
+put-named-requires-3 c κs = search needs
+
+returns : tie.Need-returns
+returns c = (rw (c .before .before .before .enum-told .given .1) (c .put-named .ensures .0), omega (arith, c .put-named .ensures .1))
+
+returns-2 : tie.Need-returns-2
+returns-2 c = (rw (c .before .before .before .before .verdict .given .1) (c .put-named2 .ensures .0), omega (arith, c .put-named2 .ensures .1))
+
+returns-3 : tie.Need-returns-3
+returns-3 c = (rw (c .before .before .before .before .verdict2 .given .1) (c .put-named3 .ensures .0), omega (arith, c .put-named3 .ensures .1))
+
+pub put-verdict-spec : {M : Type 1} → statement M
+put-verdict-spec =
+    tie.close
+    (tie.spec
+    enum-told
+    slice-aggregate-put-named
+    put-named-requires
+    enum-known-verdict
+    slice-aggregate-put-named-2
+    put-named-requires-2
+    enum-known-verdict-2
+    slice-aggregate-put-named-3
+    put-named-requires-3
+    returns
+    returns-2
+    returns-3)

@@ -1,0 +1,31 @@
+-- What the code computes on its way: a line that grows at its end, the verdict of an answer, a tally that has room. Assumes nothing.
+use Prim.Native.Nat.{ℕ, _+_, _≤_}
+use mathlib.Core.Path.{_≡_}
+use mathlib.Core.List.{List, _++_}
+use lib.ListN.{length, take}
+use Rattle.block.specs.declared.Verdict.{Verdict}
+use Rattle.block.specs.declared.Verdict.the-variants.{Clean}
+use Rattle.block.specs.Verdict.{verdictCount}
+use Rattle.store.specs.declared.Answer.{Answer}
+use Rattle.store.specs.declared.Answer.the-variants.{Refused, Stored, Found}
+use Rattle.report.specs.declared.Tally.{Tally}
+
+-- the first bytes of a line, up to a place, have grown by a text
+pub record Extended (text before : List ℕ) (at : ℕ) (after : List ℕ) (next : ℕ) : Type 0 where
+  pub place : next ≡ at + length text
+  pub front : take next after ≡ take at before ++ text
+  pub size : length after ≡ length before
+
+-- the verdict of an answer; any other answer is refused before it is asked for one
+abbrev pub verdictIn : Answer → Verdict
+verdictIn (Refused number) = Clean
+verdictIn Stored = Clean
+verdictIn (Found verdict) = verdict
+
+-- a tally of fewer than 4,096 blocks, and a verdict of at most 32 bits
+pub record Countable (verdict : Verdict) (tally : Tally) : Type 0 where
+  pub small : verdictCount verdict ≤ 32
+  pub cleanFew : tally .clean ≤ 4096
+  pub mendedFew : tally .mended ≤ 4096
+  pub lostFew : tally .lost ≤ 4096
+  pub bitsFew : tally .bits ≤ 131072

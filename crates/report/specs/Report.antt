@@ -1,0 +1,73 @@
+-- The program visits its copy of each block from 0 to N − 1 and prints the image line, a line for each block and the total line; or one line
+-- for a refusal. Assumes nothing.
+use Prim.Native.Nat.{ℕ, zero, suc}
+use mathlib.Core.Bool.{cond, Bool, true}
+use mathlib.Core.Path.{_≡_}
+use mathlib.Core.List.{List, [], _∷_, _++_}
+use lib.Dec.{leb}
+use lib.ListN.{length, drop}
+use Rattle.block.specs.declared.Verdict.{Verdict}
+use Rattle.block.specs.Verdict.{verdictOf}
+use Rattle.store.specs.Layout.{blocks}
+use Rattle.store.specs.Shapes.{shapeOf}
+use Rattle.store.specs.Image.{gathered}
+use Rattle.store.specs.Visit.{visitAfter}
+use Rattle.file.specs.declared.Header.{Header}
+use Rattle.file.specs.declared.Header.the-variants.{Refused, Image}
+use Rattle.report.specs.declared.Tally.{Tally}
+use Rattle.file.specs.Bytes.{wordCount, wordsIn}
+use Rattle.file.specs.Header.{headerOf}
+use Rattle.report.specs.Page.{page, writtenAll}
+use Rattle.report.specs.Lines.{refusalLine, imageLine, blockLine, totalLine, noBlocks, counted}
+
+-- ---- an image
+
+-- the image after the blocks below n have been visited, in order
+unfoldable pub visitedBelow : List ℕ → ℕ → ℕ → ℕ → ℕ → List ℕ
+visitedBelow image shape s g zero = image
+visitedBelow image shape s g (suc n) = visitAfter (visitedBelow image shape s g n) shape s g n
+
+-- what the visit of a block finds, those below it having been visited
+unfoldable pub verdictAt : List ℕ → ℕ → ℕ → ℕ → ℕ → Verdict
+verdictAt image shape s g block = verdictOf (shapeOf shape) (gathered (shapeOf shape) s block (visitedBelow image shape s g block))
+
+-- the lines of the blocks below n, and their tally
+unfoldable pub blockLines : List ℕ → ℕ → ℕ → ℕ → ℕ → List (List ℕ)
+blockLines image shape s g zero = []
+blockLines image shape s g (suc n) = blockLines image shape s g n ++ blockLine n (verdictAt image shape s g n) ∷ []
+
+unfoldable pub tallyBelow : List ℕ → ℕ → ℕ → ℕ → ℕ → Tally
+tallyBelow image shape s g zero = noBlocks
+tallyBelow image shape s g (suc n) = counted (verdictAt image shape s g n) (tallyBelow image shape s g n)
+
+unfoldable pub imageReport : List ℕ → ℕ → ℕ → ℕ → List (List ℕ)
+imageReport image shape s g =
+    imageLine shape s g (blocks s g) ∷ blockLines image shape s g (blocks s g) ++ totalLine (tallyBelow image shape s g (blocks s g)) ∷ []
+
+-- ---- a file
+
+abbrev pub reportFor : Header → List ℕ → List (List ℕ)
+reportFor (Refused number) words = refusalLine number ∷ []
+reportFor (Image shape s g) words = imageReport words shape s g
+
+-- the lines that are printed of a file
+unfoldable pub reportOf : List ℕ → List (List ℕ)
+reportOf bytes = reportFor (headerOf bytes) (wordsIn bytes)
+
+-- the lent image has room for the words, if there are any to copy
+abbrev pub room? : Header → List ℕ → List ℕ → Bool
+room? (Refused number) bytes image = true
+room? (Image shape s g) bytes image = leb (wordCount (length bytes)) (length image)
+
+-- the lent image after the blocks were visited there; words past them, and an image with no room, are as they were
+abbrev pub visitedFor : Header → List ℕ → List ℕ → List ℕ
+visitedFor (Refused number) bytes image = image
+visitedFor (Image shape s g) bytes image =
+    cond (leb (wordCount (length bytes)) (length image))
+    (visitedBelow (wordsIn bytes) shape s g (blocks s g) ++ drop (wordCount (length bytes)) image)
+    image
+
+-- the promise of report: the lines are written from byte 0 on, each that fits; where the image has no room, none is
+pub record Reports (bytes image out : List ℕ) (next : ℕ) (after printed : List ℕ) : Type 0 where
+  pub prints : page printed next ≡ cond (room? (headerOf bytes) bytes image) (writtenAll (reportOf bytes) (page out 0)) (page out 0)
+  pub leaves : after ≡ visitedFor (headerOf bytes) bytes image

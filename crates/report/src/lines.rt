@@ -1,0 +1,68 @@
+// The lines of a report, each written at a place of a lent buffer; answers the next place.
+// A line that does not fit is not written, and the place stays.
+ghost use mathlib.Core.Path.{_≡_};
+ghost use Prim.Native.Nat.{_+_, _≤_};
+ghost use lib.ListN.{length};
+ghost use Rattle.report.specs.Page.{page, written};
+ghost use Rattle.report.specs.Inner.{Extended};
+ghost use Rattle.report.specs.Lines.{verdictText, refusalLine, imageLine, blockLine, totalLine};
+use super::Tally;
+use super::texts::put_line;
+use super::texts::put_named;
+use super::texts::put_text;
+use block::Verdict;
+
+pub fn refusal_line(number: u32, out: &mut [u8], at: usize) -> usize
+    ensures { λ r. ⌜ page (now (out .exit)) r ≡ written (refusalLine number) (page (now (out .entry)) at) ⌝ }
+{
+    let mut line = [0u8; 96];
+    let end = put_named(b"refused ", number, &mut line, 0);
+    let n = put_text(b"\n", &mut line, end);
+    put_line(&line[..n], out, at)
+}
+
+pub fn image_line(shape: u32, s: u32, g: u32, blocks: u32, out: &mut [u8], at: usize) -> usize
+    ensures { λ r. ⌜ page (now (out .exit)) r ≡ written (imageLine shape s g blocks) (page (now (out .entry)) at) ⌝ }
+{
+    let mut line = [0u8; 96];
+    let after_shape = put_named(b"image shape ", shape, &mut line, 0);
+    let after_s = put_named(b" interleave ", s, &mut line, after_shape);
+    let after_g = put_named(b" groups ", g, &mut line, after_s);
+    let end = put_named(b" blocks ", blocks, &mut line, after_g);
+    let n = put_text(b"\n", &mut line, end);
+    put_line(&line[..n], out, at)
+}
+
+// The verdict and its number at the end of a line.
+fn put_verdict(verdict: Verdict, line: &mut [u8; 96], at: usize) -> usize
+    requires { ⌜ (length (now line) ≡ 96) × (at + 18 ≤ 96) ⌝ }
+    ensures { λ r. ⌜ Extended (verdictText verdict) (now (line .entry)) at (now (line .exit)) r × (r ≤ at + 18) ⌝ }
+{
+    match verdict {
+        Verdict::Clean => put_named(b" clean ", 0, line, at),
+        Verdict::Mended(m) => put_named(b" mended ", m, line, at),
+        Verdict::Lost(m) => put_named(b" lost ", m, line, at),
+    }
+}
+
+pub fn block_line(block: u32, verdict: Verdict, out: &mut [u8], at: usize) -> usize
+    ensures { λ r. ⌜ page (now (out .exit)) r ≡ written (blockLine block verdict) (page (now (out .entry)) at) ⌝ }
+{
+    let mut line = [0u8; 96];
+    let after_block = put_named(b"block ", block, &mut line, 0);
+    let end = put_verdict(verdict, &mut line, after_block);
+    let n = put_text(b"\n", &mut line, end);
+    put_line(&line[..n], out, at)
+}
+
+pub fn total_line(tally: Tally, out: &mut [u8], at: usize) -> usize
+    ensures { λ r. ⌜ page (now (out .exit)) r ≡ written (totalLine tally) (page (now (out .entry)) at) ⌝ }
+{
+    let mut line = [0u8; 96];
+    let after_clean = put_named(b"total clean ", tally.clean, &mut line, 0);
+    let after_mended = put_named(b" mended ", tally.mended, &mut line, after_clean);
+    let after_lost = put_named(b" lost ", tally.lost, &mut line, after_mended);
+    let end = put_named(b" bits ", tally.bits, &mut line, after_lost);
+    let n = put_text(b"\n", &mut line, end);
+    put_line(&line[..n], out, at)
+}

@@ -1,0 +1,66 @@
+/* Foldgrebe: keeps a memory image of 32-bit words in blocks that mend themselves.
+
+   A block holds 11 data words in 16 rows (shape 1) or 64 data words in 72 rows (shape 2); a row is one word. Bit i of
+   every row is lane i. One flipped bit in each lane is mended; two in one lane are noticed, and the block is then lost.
+   An image has N = s * g blocks (s from 1 to 16, N at most 4096) and exactly rows * N words. Blocks are numbered from 0.
+   Neighbouring words belong to s different blocks, so that a hit on up to s words in a row harms s blocks a little.
+
+   Use: format once, write and read blocks by number, and call turn again and again, which patrols the image: each turn
+   visits (checks and mends) the next block and one block that was asked for. If at most one bit of a lane of a block
+   flips in every N turns, every read gives what was last written.
+
+   Every call answers a number: 0 where it is accepted, or the first refusal, in the order given with the call:
+     1  shape is not 1 or 2                      5  the record is broken
+     2  s is 0 or above 16                       6  there is no block of that number
+     3  g is 0, or there are above 4096 blocks   7  the data or the buffer is not of 11 or 64 words, as the shape wants
+     4  words is not rows * s * g                8  16 other blocks wait already
+   A refused call sets verdict, place and report to zeros and alters nothing else; only a refused format also gives a
+   record of zeros.
+
+   What the caller owes:
+   - each pointer points at as many words as its count or its array says, is aligned for uint32_t, and is not NULL, also
+     where the count is 0;
+   - the parts of memory lent to one call do not overlap, and nothing else uses them until the call is back;
+   - nothing else: any numbers may be passed, and any words may stand in image and record.
+   The library keeps nothing between calls, allocates nothing, and may be used from several threads on separate images. */
+#ifndef FOLDGREBE_H
+#define FOLDGREBE_H
+
+#include <stddef.h>
+#include <stdint.h>
+
+#ifdef __cplusplus
+extern "C" {
+#endif
+
+#define FOLDGREBE_RECORD_WORDS 21   /* shape, s, G, next, waiting, then the 16 places */
+#define FOLDGREBE_VERDICT_WORDS 2   /* verdict, count */
+
+/* Verdicts: 1 clean, count 0; 2 mended, count = bits changed, from 1 to 32; 3 lost, count = lanes lost; 0 no verdict. */
+
+/* Sets every word of the image to zero, which is zero data in every block, and gives a new record. Refuses 1, 2, 3, 4. */
+uint32_t foldgrebe_format(uint32_t *image, size_t words, uint32_t shape, uint32_t s, uint32_t g, uint32_t record[FOLDGREBE_RECORD_WORDS]);
+
+/* Stores data_words words (11 or 64) as the block, and touches no other block. Refuses 1, 2, 3, 4, 6, 7. */
+uint32_t foldgrebe_write (uint32_t *image, size_t words, uint32_t shape, uint32_t s, uint32_t g, uint32_t block, const uint32_t *data, size_t data_words);
+
+/* Copies the block's mended data to the buffer (11 or 64 words); where it is lost the buffer stays as it was. The image
+   is not altered: the verdict and count are what a visit would say. Refuses 1, 2, 3, 4, 6, 7. */
+uint32_t foldgrebe_read  (const uint32_t *image, size_t words, uint32_t shape, uint32_t s, uint32_t g, uint32_t block, uint32_t *buffer, size_t buffer_words, uint32_t verdict[FOLDGREBE_VERDICT_WORDS]);
+
+/* Checks the block and mends it in place; a lost block is left as it is, its good lanes too. Refuses 1, 2, 3, 4, 6. */
+uint32_t foldgrebe_visit (uint32_t *image, size_t words, uint32_t shape, uint32_t s, uint32_t g, uint32_t block, uint32_t verdict[FOLDGREBE_VERDICT_WORDS]);
+
+/* Puts the block on the waiting list and gives its place, 1 being next; a block that waits already keeps its place, and
+   the record stays as it was. Refuses 1, 2, 3, 5, 6, 8. */
+uint32_t foldgrebe_ask   (uint32_t record[FOLDGREBE_RECORD_WORDS], uint32_t block, uint32_t place[1]);
+
+/* Visits the next block, then the block at place 1 if one waits, and moves the record on. The report has the block, its
+   verdict and count, then the same of the block asked for, or three zeros where none waited. Refuses 1, 2, 3, 4, 5. */
+uint32_t foldgrebe_turn  (uint32_t record[FOLDGREBE_RECORD_WORDS], uint32_t *image, size_t words, uint32_t report[2 + 2 * FOLDGREBE_VERDICT_WORDS]); /* block, verdict, count, ask's block, verdict, count */
+
+#ifdef __cplusplus
+}
+#endif
+
+#endif

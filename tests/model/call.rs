@@ -1,0 +1,107 @@
+//! A call as a value, the lent words that it works on, and what it answers and leaves.
+
+use crate::block::Outcome;
+use crate::patrol::{self, Record};
+use crate::store;
+
+#[derive(Clone, Copy, PartialEq, Debug)]
+pub enum Name {
+    Format,
+    Write,
+    Read,
+    Visit,
+    Ask,
+    Turn,
+}
+
+impl Name {
+    pub const ALL: [Name; 6] = [Name::Format, Name::Write, Name::Read, Name::Visit, Name::Ask, Name::Turn];
+
+    pub fn text(self) -> &'static str {
+        ["format", "write", "read", "visit", "ask", "turn"][self as usize]
+    }
+
+    pub fn takes_image(self) -> bool {
+        self != Name::Ask
+    }
+
+    pub fn takes_record(self) -> bool {
+        matches!(self, Name::Format | Name::Ask | Name::Turn)
+    }
+
+    pub fn takes_layout(self) -> bool {
+        !matches!(self, Name::Ask | Name::Turn)
+    }
+
+    pub fn takes_list(self) -> bool {
+        matches!(self, Name::Write | Name::Read)
+    }
+}
+
+/// A call with its arguments; those that its name does not take are not looked at. `list` is the data or the buffer.
+#[derive(Clone, Debug)]
+pub struct Call {
+    pub name: Name,
+    pub words: u64,
+    pub shape: u32,
+    pub s: u32,
+    pub g: u32,
+    pub block: u32,
+    pub list: Vec<u32>,
+}
+
+/// What goes from call to call.
+#[derive(Clone)]
+pub struct Lent {
+    pub image: Vec<u32>,
+    pub record: Record,
+}
+
+/// The number; block, verdict, count twice over (a turn's report; other calls use the first three, an ask the place).
+#[derive(Clone, Default, Debug)]
+pub struct Answer {
+    pub number: u32,
+    pub report: [u32; 6],
+    pub place: u32,
+}
+
+fn outcome_answer(number: u32, outcome: Outcome) -> Answer {
+    Answer { number, report: [0, outcome.verdict, outcome.count, 0, 0, 0], place: 0 }
+}
+
+/// Runs a call on the model; a read changes the call's own list.
+pub fn run(call: &mut Call, lent: &mut Lent) -> Answer {
+    let (words, shape, s, g, b) = (call.words, call.shape, call.s, call.g, call.block);
+    match call.name {
+        Name::Format => {
+            let (number, record) = store::format(&mut lent.image, words, shape, s, g);
+            lent.record = record;
+            outcome_answer(number, Outcome::default())
+        }
+        Name::Write => {
+            let number = store::write(&mut lent.image, words, shape, s, g, b, &call.list);
+            outcome_answer(number, Outcome::default())
+        }
+        Name::Read => {
+            let (number, outcome) = store::read(&lent.image, words, shape, s, g, b, &mut call.list);
+            outcome_answer(number, outcome)
+        }
+        Name::Visit => {
+            let (number, outcome) = store::visit(&mut lent.image, words, shape, s, g, b);
+            outcome_answer(number, outcome)
+        }
+        Name::Ask => {
+            let (number, place, record) = patrol::ask(lent.record, b);
+            lent.record = record;
+            Answer { number, place, ..Answer::default() }
+        }
+        Name::Turn => run_turn(lent, words),
+    }
+}
+
+fn run_turn(lent: &mut Lent, words: u64) -> Answer {
+    let (number, [own, asked], record) = patrol::turn(lent.record, &mut lent.image, words);
+    lent.record = record;
+    let report = [own.0, own.1.verdict, own.1.count, asked.0, asked.1.verdict, asked.1.count];
+    Answer { number, report, place: 0 }
+}

@@ -1,0 +1,157 @@
+/* A store in use, under a steady rain of flips: any lane of any block, but at least N turns between two flips of one lane of
+   one block. Every read must give what was last written (zeros where nothing was); every visit must count the flips that
+   came since the last one; every ask must be served in its turn. Only the library's answers are used.
+
+   soak SEED TURNS   so many turns on each of twenty stores; exits 1 at the first wrong answer. */
+#include <stdio.h>
+#include <stdlib.h>
+#include <string.h>
+#include "foldgrebe.h"
+
+enum { LANES = 32, MOST_BLOCKS = 600, MOST_ROWS = 72, MOST_DATA = 64, PLACES = 16, GUARDS = 64 };
+static const uint32_t GUARD = 0x6b8f21d3;
+
+static uint32_t shape, s, g, n, rows, data_words;             /* the store's layout */
+static uint32_t room[MOST_BLOCKS * MOST_ROWS + 2 * GUARDS], *const image = room + GUARDS;
+static size_t words;
+static uint32_t record[FOLDGREBE_RECORD_WORDS];
+
+static uint32_t meant[MOST_BLOCKS][MOST_DATA];                /* what was last written */
+static uint32_t flipped[MOST_BLOCKS];                         /* lanes flipped since the block was last visited or written */
+static uint64_t last_flip[MOST_BLOCKS][LANES];                /* the turn before which a lane was last flipped, from 1; 0 never */
+static uint32_t waiting[PLACES], waits;                       /* the asks, as their places told */
+static uint64_t turns, next, flips, reads, writes, asks;
+static uint64_t random_state;
+static uint64_t seed;
+
+static uint64_t random_number(void)
+{
+    uint64_t z = random_state += 0x9e3779b97f4a7c15u;
+    z = (z ^ z >> 30) * 0xbf58476d1ce4e5b9u;
+    z = (z ^ z >> 27) * 0x94d049bb133111ebu;
+    return z ^ z >> 31;
+}
+
+static uint32_t below(uint32_t k) { return (uint32_t)((random_number() >> 16) % k); }
+
+static void expect(int holds, const char *what, uint32_t block)
+{
+    if (holds) return;
+    printf("soak: %s (seed %llu, shape %u, s %u, G %u, block %u, after %llu turns)\n", what, (unsigned long long)seed,
+           shape, s, g, block, (unsigned long long)turns);
+    exit(1);
+}
+
+static uint32_t ones(uint32_t x) { uint32_t c = 0; for (; x; x &= x - 1) c++; return c; }
+
+static void rain(uint32_t drops)
+{
+    while (drops--) {
+        uint32_t block = below(n), lane = below(LANES), row = below(rows);
+        uint64_t *last = &last_flip[block][lane];
+        if (*last && turns + 1 - *last < n) continue;
+        *last = turns + 1;
+        image[(size_t)(block / s) * rows * s + (size_t)row * s + block % s] ^= 1u << lane;
+        flipped[block] |= 1u << lane;
+        flips++;
+    }
+}
+
+/* A verdict must be clean, or mended by as many bits as lanes were flipped. */
+static void expect_verdict(uint32_t block, uint32_t verdict, uint32_t count)
+{
+    expect(verdict == (flipped[block] ? 2 : 1) && count == ones(flipped[block]), "wrong verdict or count", block);
+}
+
+static void read_one(void)
+{
+    uint32_t block = below(n), buffer[MOST_DATA], verdict[FOLDGREBE_VERDICT_WORDS];
+    expect(foldgrebe_read(image, words, shape, s, g, block, buffer, data_words, verdict) == 0, "read refused", block);
+    expect_verdict(block, verdict[0], verdict[1]);
+    expect(memcmp(buffer, meant[block], data_words * sizeof *buffer) == 0, "read is not what was written", block);
+    reads++;
+}
+
+static void write_one(void)
+{
+    uint32_t block = below(n);
+    for (uint32_t i = 0; i < data_words; i++) meant[block][i] = (uint32_t)random_number();
+    expect(foldgrebe_write(image, words, shape, s, g, block, meant[block], data_words) == 0, "write refused", block);
+    flipped[block] = 0;
+    writes++;
+}
+
+static uint32_t place_of(uint32_t block)
+{
+    for (uint32_t i = 0; i < waits; i++) if (waiting[i] == block) return i + 1;
+    return 0;
+}
+
+static void ask_one(void)
+{
+    uint32_t block = below(n), place[1], known = place_of(block);
+    uint32_t number = foldgrebe_ask(record, block, place);
+    asks++;
+    if (!known && waits == PLACES) { expect(number == 8 && place[0] == 0, "ask beyond 16 not refused", block); return; }
+    if (!known) waiting[waits++] = block;
+    expect(number == 0 && place[0] == (known ? known : waits), "ask got a wrong place", block);
+}
+
+static void turn_one(void)
+{
+    uint32_t r[2 + 2 * FOLDGREBE_VERDICT_WORDS];
+    expect(foldgrebe_turn(record, image, words, r) == 0, "turn refused", (uint32_t)next);
+    expect(r[0] == next, "turn visited another block than the next", r[0]);
+    expect_verdict(r[0], r[1], r[2]);
+    flipped[r[0]] = 0;
+    next = (next + 1) % n;
+    turns++;
+    if (waits == 0) { expect(!r[3] && !r[4] && !r[5], "turn served an ask that nobody made", r[3]); return; }
+    expect(r[3] == waiting[0], "turn served another block than place 1", r[3]);
+    expect_verdict(r[3], r[4], r[5]);
+    flipped[r[3]] = 0;
+    memmove(waiting, waiting + 1, --waits * sizeof *waiting);
+}
+
+static void fresh_store(void)
+{
+    n = s * g, rows = shape == 1 ? 16 : 72, data_words = shape == 1 ? 11 : 64, words = (size_t)rows * n;
+    memset(meant, 0, sizeof meant), memset(flipped, 0, sizeof flipped), memset(last_flip, 0, sizeof last_flip);
+    waits = 0, turns = next = 0;
+    for (size_t i = 0; i < words + 2 * GUARDS; i++) room[i] = GUARD;
+    expect(foldgrebe_format(image, words, shape, s, g, record) == 0, "format refused", 0);
+}
+
+static void use_store(uint64_t upto)
+{
+    static const uint32_t heaviness[] = { 1, 4, 64, 1024 };
+    uint32_t drops = heaviness[below(4)];
+    while (turns < upto) {
+        rain(below(drops + 1));
+        switch (below(8)) {
+        case 0: case 1: read_one(); break;
+        case 2: write_one(); break;
+        case 3: case 4: ask_one(); break;
+        default: turn_one();
+        }
+        if (turns % 512 == 0) drops = heaviness[below(4)];
+    }
+    for (size_t i = 0; i < GUARDS; i++) expect(room[i] == GUARD && image[words + i] == GUARD, "guard word altered", 0);
+}
+
+int main(int argc, char **argv)
+{
+    static const uint32_t layouts[][2] = {   /* s, G */
+        { 1, 1 }, { 1, 2 }, { 1, 17 }, { 2, 3 }, { 3, 1 }, { 6, 7 }, { 16, 2 }, { 16, 20 }, { 5, 1 }, { 13, 3 },
+    };
+    if (argc != 3) { fprintf(stderr, "usage: soak SEED TURNS\n"); return 2; }
+    random_state = seed = strtoull(argv[1], NULL, 10);
+    for (unsigned k = 0; k < 2 * sizeof layouts / sizeof *layouts; k++) {
+        shape = k % 2 + 1, s = layouts[k / 2][0], g = layouts[k / 2][1];
+        fresh_store();
+        use_store(strtoull(argv[2], NULL, 10));
+    }
+    printf("soak: seed %llu, %llu flips, %llu reads, %llu writes, %llu asks as they should be\n", (unsigned long long)seed,
+           (unsigned long long)flips, (unsigned long long)reads, (unsigned long long)writes, (unsigned long long)asks);
+    return 0;
+}

@@ -1,0 +1,54 @@
+/* Runs stored vectors (tests/VECTORS.md) on the library: vectors <FILE prints how many calls agree, or the first that does not. */
+#include <stdio.h>
+#include <stdlib.h>
+#include <string.h>
+#include "foldgrebe.h"
+
+enum { MOST = 1024, FORMAT = 1, WRITE, READ, VISIT, ASK, TURN };
+enum { OPCODE, SHAPE, S, G, BLOCK, IMAGE_WORDS, LIST_WORDS, RECORD_WORDS, LENT };
+
+static uint32_t vector[MOST];
+
+/* The next word, most significant byte first; 0 at the end of the input too. */
+static uint32_t word(void)
+{
+    unsigned char b[4];
+    if (fread(b, 1, 4, stdin) != 4) return 0;
+    return (uint32_t)b[0] << 24 | (uint32_t)b[1] << 16 | (uint32_t)b[2] << 8 | b[3];
+}
+
+/* The number, then block, verdict, count twice over, then the place. */
+static void run(const uint32_t *v, uint32_t *image, uint32_t *list, uint32_t *record, uint32_t answer[8])
+{
+    size_t words = v[IMAGE_WORDS], length = v[LIST_WORDS];
+    memset(answer, 0, 8 * sizeof *answer);
+    switch (v[OPCODE]) {
+    case FORMAT: answer[0] = foldgrebe_format(image, words, v[SHAPE], v[S], v[G], record); break;
+    case WRITE: answer[0] = foldgrebe_write(image, words, v[SHAPE], v[S], v[G], v[BLOCK], list, length); break;
+    case READ: answer[0] = foldgrebe_read(image, words, v[SHAPE], v[S], v[G], v[BLOCK], list, length, answer + 2); break;
+    case VISIT: answer[0] = foldgrebe_visit(image, words, v[SHAPE], v[S], v[G], v[BLOCK], answer + 2); break;
+    case ASK: answer[0] = foldgrebe_ask(record, v[BLOCK], answer + 7); break;
+    case TURN: answer[0] = foldgrebe_turn(record, image, words, answer + 1); break;
+    default: answer[0] = UINT32_MAX;
+    }
+}
+
+int main(void)
+{
+    unsigned agree = 0;
+    for (uint32_t length; (length = word()) != 0; agree++) {
+        uint32_t answer[8];
+        if (length > MOST) { printf("vectors: call %u is too long\n", agree + 1); return 1; }
+        for (uint32_t i = 0; i < length; i++) vector[i] = word();
+        uint32_t *image = vector + LENT, *list = image + vector[IMAGE_WORDS], *record = list + vector[LIST_WORDS];
+        uint32_t *expected = record + vector[RECORD_WORDS];
+        size_t lent = (size_t)(expected - image);
+        run(vector, image, list, record, answer);
+        if (memcmp(answer, expected, sizeof answer) || memcmp(image, expected + 8, lent * sizeof *image)) {
+            printf("vectors: call %u (opcode %u) does not agree\n", agree + 1, vector[OPCODE]);
+            return 1;
+        }
+    }
+    printf("vectors: %u calls agree\n", agree);
+    return agree == 0;
+}
