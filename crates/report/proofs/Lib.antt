@@ -4,3 +4,4 @@ pub mod Counts
 pub mod Visited
 pub mod Reported
 pub mod Whole
+pub mod OneResult

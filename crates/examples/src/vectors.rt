@@ -1,0 +1,96 @@
+// Stored vectors: each call is run, and what it answers and leaves is compared.
+use crate::calls::run;
+use crate::heads::Head;
+use crate::input::Input;
+use crate::input::read_vector;
+use crate::words::after;
+use crate::words::copy;
+use crate::words::first;
+use crate::words::lent;
+use crate::words::same;
+
+// How many vectors there were, and how many agree.
+pub(crate) struct Tally {
+    pub(crate) vectors: u64,
+    pub(crate) agree: u64,
+}
+
+// What came of the next vector; after a broken one nothing can be read.
+enum Outcome {
+    Agrees,
+    Differs,
+    Broken,
+    End,
+}
+
+// Whether a call answered and left what is expected, and no more is expected.
+fn left(expected: &[u32], answer: [u32; 8], image: &[u32], beside: &[u32]) -> bool {
+    let words = after(expected, 8);
+    same(first(expected, 8), &answer)
+        && same(first(words, image.len()), image)
+        && same(after(words, image.len()), beside)
+}
+
+// Whether the first `count` words are a vector whose call answers and leaves what it says.
+fn agrees(words: &[u32; 436], count: u32) -> bool {
+    let vector = first(words, count as usize);
+    let head = Head::of(vector);
+    if head.fits() {
+        let mut image = [0u32; 145];
+        let mut beside = [0u32; 65];
+        let in_image = head.image as usize;
+        let in_beside = head.beside();
+        let images = after(vector, 8);
+        let others = after(images, in_image);
+        copy(images, &mut image);
+        copy(others, &mut beside);
+        let answer = run(
+            head,
+            lent(&mut image, in_image),
+            lent(&mut beside, in_beside),
+        );
+        return left(
+            after(others, in_beside),
+            answer,
+            first(&image, in_image),
+            first(&beside, in_beside),
+        );
+    }
+    false
+}
+
+// Reads the next vector and runs it.
+fn run_next() -> Outcome {
+    let mut words = [0u32; 436];
+    match read_vector(&mut words) {
+        Input::Words(count) => {
+            if agrees(&words, count) {
+                return Outcome::Agrees;
+            }
+            Outcome::Differs
+        }
+        Input::Broken => Outcome::Broken,
+        Input::End => Outcome::End,
+    }
+}
+
+// Runs vectors until the count 0, the end of the input or a broken one; no input has more than a count holds.
+pub(crate) fn run_all() -> Tally {
+    let mut vectors = 0;
+    let mut agree = 0;
+    while vectors < u64::MAX {
+        match run_next() {
+            Outcome::End => return Tally { vectors, agree },
+            Outcome::Broken => {
+                return Tally {
+                    vectors: vectors + 1,
+                    agree,
+                };
+            }
+            Outcome::Agrees => agree += 1,
+            Outcome::Differs => {}
+        }
+        vectors += 1;
+    }
+    Tally { vectors, agree }
+}

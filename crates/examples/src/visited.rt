@@ -1,0 +1,65 @@
+// Worked examples 5 to 11: what a visit finds, and what it leaves.
+use crate::answers::of_answer;
+use crate::words::put_rows;
+use crate::words::same;
+
+// Whether a visit of the only block of an image finds this verdict and count, and leaves these words.
+fn visit_leaves(image: &mut [u32], shape: u32, verdict: u32, count: u32, after: &[u32]) -> bool {
+    let answer = of_answer(store::visit(image, shape, 1, 1, 0));
+    same(&answer, &[0, 0, verdict, count, 0, 0, 0, 0]) && same(image, after)
+}
+
+// Whether a visit of this block of shape 1 mends so many bits and leaves these rows.
+fn mends(rows: [u32; 16], bits: u32, after: [u32; 16]) -> bool {
+    let mut image = rows;
+    visit_leaves(&mut image, 1, 2, bits, &after)
+}
+
+// Whether a visit of this block of shape 1 finds so many lanes lost and leaves every row.
+fn loses(rows: [u32; 16], lanes: u32) -> bool {
+    let mut image = rows;
+    visit_leaves(&mut image, 1, 3, lanes, &rows)
+}
+
+// Row 5 = 1: mended 1, all zero after.
+pub(crate) fn example_5() -> bool {
+    mends([0, 0, 0, 0, 1, 0, 0, 0, 0, 0, 0, 0, 0, 0, 0, 0], 1, [0; 16])
+}
+
+// Row 16 = FFFFFFFF hex: mended 32, all zero after.
+pub(crate) fn example_6() -> bool {
+    mends(
+        [0, 0, 0, 0, 0, 0, 0, 0, 0, 0, 0, 0, 0, 0, 0, 0xFFFFFFFF],
+        32,
+        [0; 16],
+    )
+}
+
+// Rows 3 and 5 = 1: lost 1, unchanged.
+pub(crate) fn example_7() -> bool {
+    loses([0, 0, 1, 0, 1, 0, 0, 0, 0, 0, 0, 0, 0, 0, 0, 0], 1)
+}
+
+// Row 3 = 1, row 5 = 2: mended 2, all zero after.
+pub(crate) fn example_8() -> bool {
+    mends([0, 0, 1, 0, 2, 0, 0, 0, 0, 0, 0, 0, 0, 0, 0, 0], 2, [0; 16])
+}
+
+// Rows 3 and 5 = 1, row 9 = 2: lost 1; row 9 stays 2.
+pub(crate) fn example_9() -> bool {
+    loses([0, 0, 1, 0, 1, 0, 0, 0, 2, 0, 0, 0, 0, 0, 0, 0], 1)
+}
+
+// Rows 1, 2 and 4 = 1: mended 1; row 7 becomes 1 too.
+pub(crate) fn example_10() -> bool {
+    let after = [1, 1, 0, 1, 0, 0, 1, 0, 0, 0, 0, 0, 0, 0, 0, 0];
+    mends([1, 1, 0, 1, 0, 0, 0, 0, 0, 0, 0, 0, 0, 0, 0, 0], 1, after)
+}
+
+// Shape 2, rows 1, 9 and 64 = 1: sum 72, odd: lost 1, unchanged.
+pub(crate) fn example_11() -> bool {
+    let mut image = [0u32; 72];
+    put_rows(&mut image, &[1, 9, 64], 1);
+    let after = image;
+    visit_leaves(&mut image, 2, 3, 1, &after)
+}

@@ -1,0 +1,85 @@
+// Lists of words: one set, parts of them, copies, and whether two are the same.
+
+// The word at an index, or 0 past the end.
+pub(crate) fn word_at(words: &[u32], i: usize) -> u32 {
+    if i < words.len() { words[i] } else { 0 }
+}
+
+// Sets the word at an index, if there is one.
+fn put(words: &mut [u32], i: usize, word: u32) {
+    if i < words.len() {
+        words[i] = word;
+    }
+}
+
+// Sets a row of the only block of an image, or a word of a data list: both are numbered from 1.
+fn put_row(words: &mut [u32], row: usize, word: u32) {
+    if row != 0 {
+        put(words, row - 1, word);
+    }
+}
+
+// Sets each of these rows, or data words.
+pub(crate) fn put_rows(words: &mut [u32], rows: &[usize], word: u32) {
+    let mut i = 0;
+    while i < rows.len() {
+        put_row(words, rows[i], word);
+        i += 1;
+    }
+}
+
+// The first `count` words, or none where there are fewer.
+pub(crate) fn first(words: &[u32], count: usize) -> &[u32] {
+    if count <= words.len() {
+        return &words[0..count];
+    }
+    &words[0..0]
+}
+
+// The first `count` words, to be changed, or none where there are fewer.
+pub(crate) fn lent(words: &mut [u32], count: usize) -> &mut [u32] {
+    if count <= words.len() {
+        return &mut words[0..count];
+    }
+    &mut words[0..0]
+}
+
+// The words after the first `count`, or none where there are fewer.
+pub(crate) fn after(words: &[u32], count: usize) -> &[u32] {
+    if count <= words.len() {
+        return &words[count..];
+    }
+    &words[0..0]
+}
+
+// The words after the first `count`, to be changed, or none where there are fewer.
+pub(crate) fn beyond(words: &mut [u32], count: usize) -> &mut [u32] {
+    if count <= words.len() {
+        return &mut words[count..];
+    }
+    &mut words[0..0]
+}
+
+// Copies as many words as both have.
+pub(crate) fn copy(from: &[u32], to: &mut [u32]) {
+    let mut i = 0;
+    while i < from.len() {
+        put(to, i, from[i]);
+        i += 1;
+    }
+}
+
+// Whether two lists have the same words.
+pub(crate) fn same(a: &[u32], b: &[u32]) -> bool {
+    if a.len() != b.len() {
+        return false;
+    }
+    let mut i = 0;
+    while i < a.len() {
+        if a[i] != word_at(b, i) {
+            return false;
+        }
+        i += 1;
+    }
+    true
+}
