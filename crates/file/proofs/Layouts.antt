@@ -1,5 +1,5 @@
 -- The words of a file, and the layout that its header names. Assumes nothing.
-use Prim.Native.Nat.{ℕ, zero, suc, _-_, _≤_, _<_}
+use Prim.Native.Nat.{ℕ, zero, suc, _-_}
 use mathlib.Core.Path.{_≡_, refl, sym, _∙_}
 use mathlib.Core.List.{List}
 use native.Mathlib.Nat.{min-eq-left}
@@ -11,7 +11,7 @@ use Rattle.store.specs.Refusal.{layoutRefusal}
 use Rattle.file.specs.declared.Header.the-variants.{Image}
 use Rattle.file.specs.Bytes.{shapeIn, interleaveIn, groupsIn, wordCount, wordIn, wordsIn, wordsInto}
 use Rattle.file.specs.Refusal.{fileRefusal}
-use Rattle.file.specs.Header.{headerIf, headerOf}
+use Rattle.file.specs.Header.{headerNumber, headerIf, headerOf}
 use Rattle.file.proofs.Ladder.{accepted, body-words, frame-passed}
 
 -- a lent image of as many words as the file has holds those words
@@ -23,6 +23,15 @@ words-fill bytes image e =
     (λ k h. stores-hit image (λ k. k) (wordIn bytes) k (wordCount (length bytes)) (λ j l q. q) h (omega arith)))
 
 -- ---- the layout that a header names
+
+-- a header has the number of the file's refusal
+pub header-number : (bytes : List ℕ) → headerNumber (headerOf bytes) ≡ fileRefusal bytes
+unfolding headerOf
+header-number bytes = by (fileRefusal bytes)
+  where
+    by : (n : ℕ) → headerNumber (headerIf n (Image (shapeIn bytes) (interleaveIn bytes) (groupsIn bytes))) ≡ n
+    by zero = refl
+    by (suc n) = refl
 
 pub record Layout (bytes : List ℕ) (shape s g : ℕ) : Type 0 where
   pub passed : fileRefusal bytes ≡ 0

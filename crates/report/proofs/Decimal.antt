@@ -6,7 +6,7 @@ use native.Mathlib.Decide.{decLt}
 use native.Mathlib.Nat.{pow-succ'}
 use native.Mathlib.Omega.{arith}
 use borrow.Author.Tests.{lt-ltb, le-ltb}
-use lib.ListN.{length, length-append}
+use lib.ListN.{length, getD, length-append, List·getD-append}
 use Rattle.report.specs.Text.{digit, spelled, decimal}
 
 -- ---- the steps
@@ -78,6 +78,12 @@ length-one n h = ap length (decimal-one n h)
 pub length-more : (n : ℕ) → 10 ≤ n → length (decimal n) ≡ length (decimal (n / 10)) + 1
 length-more n h = ap length (decimal-more n h) ∙ length-append (decimal (n / 10)) (digit (n % 10) ∷ [])
 
+decimal-some : (n : ℕ) → 0 < length (decimal n)
+decimal-some n = elim (decLt n 10) [
+  | yes l ↦ omega (arith, length-one n l)
+  | no l ↦ omega (arith, length-more n (omega arith))
+]
+
 -- a number below 10 ^ k has at most k digits
 pub decimal-short : (k n : ℕ) → n < 10 ^ suc k → length (decimal n) ≤ suc k
 decimal-short zero n h = omega (arith, length-one n (omega arith))
@@ -85,3 +91,19 @@ decimal-short (suc k) n h = elim (decLt n 10) [
   | yes l ↦ omega (arith, length-one n l)
   | no l ↦ omega (arith, length-more n (omega arith), decimal-short k (n / 10) (omega (arith, pow-succ' 10 (suc k))))
 ]
+
+-- ---- no zeros in front
+
+front-steps : (steps n : ℕ) → n ≤ steps → 1 ≤ n → getD (decimal n) 0 0 ≡ digit 0 → ⊥
+front-steps zero n h l e = omega arith
+front-steps (suc steps) n h l e = elim (decLt n 10) [
+  | yes low ↦ omega (arith, sym e ∙ ap (λ (ds : List ℕ). getD ds 0 0) (decimal-one n low))
+  | no high ↦ front-steps steps (n / 10) (omega arith) (omega arith)
+      (sym (List·getD-append (decimal (n / 10)) (digit (n % 10) ∷ []) 0 0 (decimal-some (n / 10)))
+      ∙ ap (λ (ds : List ℕ). getD ds 0 0) (sym (decimal-more n (omega arith)))
+      ∙ e)
+]
+
+-- the first digit of a number above 0 is no 0
+pub decimal-front : (n : ℕ) → 1 ≤ n → getD (decimal n) 0 0 ≡ digit 0 → ⊥
+decimal-front n = front-steps n n (omega arith)

@@ -21,18 +21,18 @@ use Rattle.store.proofs.Ladder.{Geometry}
 use Rattle.store.proofs.Shapes.{shape-one, shape-two}
 use Rattle.file.specs.declared.Header.{Header}
 use Rattle.file.specs.declared.Header.the-variants.{Image}
-use Rattle.report.specs.declared.Tally.{Tally}
-use Rattle.report.specs.Text.{ascii, decimal}
 use Rattle.file.specs.Bytes.{shapeIn, interleaveIn, groupsIn, wordCount, wordsIn}
 use Rattle.file.specs.Refusal.{fileRefusal}
 use Rattle.file.specs.Reason.{fileRules}
 use Rattle.file.specs.Header.{headerIf, headerOf}
+use Rattle.file.proofs.Ladder.{Accepted, accepted, file-first}
+use Rattle.report.specs.declared.Tally.{Tally}
+use Rattle.report.specs.Text.{ascii, decimal}
 use Rattle.report.specs.Page.{page, writtenAll, joined}
 use Rattle.report.specs.Lines.{named, lineEnd, refusalLine, imageLine, verdictText, blockLine, totalLine}
 use Rattle.report.specs.Report.{blockLines, tallyBelow, verdictAt, imageReport, reportFor, reportOf, room?, Reports}
 use Rattle.report.proofs.Counts.{Within, verdict-most, tally-within}
 use Rattle.report.proofs.Decimal.{decimal-short}
-use Rattle.file.proofs.Ladder.{Accepted, accepted, file-first}
 use Rattle.report.proofs.Pages.{all-fit}
 
 -- ---- the lines

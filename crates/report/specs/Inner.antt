@@ -16,13 +16,13 @@ pub record Extended (text before : List ℕ) (at : ℕ) (after : List ℕ) (next
   pub front : take next after ≡ take at before ++ text
   pub size : length after ≡ length before
 
--- the verdict of an answer; any other answer is refused before it is asked for one
+-- the verdict of an answer; a visit of an accepted layout has one, and any other answer never comes
 abbrev pub verdictIn : Answer → Verdict
 verdictIn (Refused number) = Clean
 verdictIn Stored = Clean
 verdictIn (Found verdict) = verdict
 
--- a tally of fewer than 4,096 blocks, and a verdict of at most 32 bits
+-- a tally of at most 4,096 blocks, and a verdict of at most 32 bits
 pub record Countable (verdict : Verdict) (tally : Tally) : Type 0 where
   pub small : verdictCount verdict ≤ 32
   pub cleanFew : tally .clean ≤ 4096

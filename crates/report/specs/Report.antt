@@ -14,9 +14,9 @@ use Rattle.store.specs.Image.{gathered}
 use Rattle.store.specs.Visit.{visitAfter}
 use Rattle.file.specs.declared.Header.{Header}
 use Rattle.file.specs.declared.Header.the-variants.{Refused, Image}
-use Rattle.report.specs.declared.Tally.{Tally}
 use Rattle.file.specs.Bytes.{wordCount, wordsIn}
 use Rattle.file.specs.Header.{headerOf}
+use Rattle.report.specs.declared.Tally.{Tally}
 use Rattle.report.specs.Page.{page, writtenAll}
 use Rattle.report.specs.Lines.{refusalLine, imageLine, blockLine, totalLine, noBlocks, counted}
 
@@ -67,7 +67,7 @@ visitedFor (Image shape s g) bytes image =
     (visitedBelow (wordsIn bytes) shape s g (blocks s g) ++ drop (wordCount (length bytes)) image)
     image
 
--- the promise of report: the lines are written from byte 0 on, each that fits; where the image has no room, none is
+-- the promise of inspect: the lines are written from byte 0 on, each that fits; where the image has no room, none is
 pub record Reports (bytes image out : List ℕ) (next : ℕ) (after printed : List ℕ) : Type 0 where
   pub prints : page printed next ≡ cond (room? (headerOf bytes) bytes image) (writtenAll (reportOf bytes) (page out 0)) (page out 0)
   pub leaves : after ≡ visitedFor (headerOf bytes) bytes image
