@@ -1,5 +1,5 @@
 -- A block is mended lane by lane: what is left is valid, within one bit a lane, and the only such block; lost says that there is none. Assumes nothing.
-use Prim.Native.Nat.{ℕ, zero, suc, _+_, _^_, _≤_, _<_}
+use Prim.Native.Nat.{ℕ, zero, suc, _+_, _≤_, _<_}
 use mathlib.Core.Bool.{Bool, true, false}
 use mathlib.Core.Path.{_≡_, refl, sym, ap, _∙_}
 use mathlib.Core.List.{List}
@@ -19,7 +19,7 @@ use Rattle.lane.proofs.Rows.{split-below}
 use Rattle.lane.proofs.Mended.{mended-valid, mended-count, mended-near, near-kept}
 use Rattle.block.specs.declared.Shape.{Shape}
 use Rattle.block.specs.Shape.{before, rows}
-use Rattle.block.specs.Words.{lane, word, listOf, total}
+use Rattle.block.specs.Words.{lane, word, total}
 use Rattle.block.specs.Block.{ValidBlock, Near, SameRows, Fitting, lanesLost, ifZero, mendedLanes, mendedBlock, bitsChanged}
 use Rattle.block.proofs.Words.{bit-number, number-lt, number-same}
 use Rattle.block.proofs.Flips.{getD-listOf, length-listOf, list-is, word-none}

@@ -1,7 +1,7 @@
 -- Where the data words stand in a block, and that every other row is zero. Assumes nothing.
-use Prim.Native.Nat.{ℕ, zero, suc, _-_, _^_, _≤_, _<_}
+use Prim.Native.Nat.{ℕ, suc, _-_, _^_, _<_}
 use mathlib.Core.Bool.{Bool, not}
-use mathlib.Core.Path.{_≡_, refl, sym, ap, _∙_}
+use mathlib.Core.Path.{_≡_, refl, _∙_}
 use mathlib.Core.List.{List}
 use mathlib.Core.Logic.{⊎-elim}
 use native.Mathlib.Omega.{arith}
@@ -12,8 +12,8 @@ use Rattle.lane.specs.Rows.{power?, DataRow, rowsWhere}
 use Rattle.lane.proofs.Rows.{row-passes, row-there, rows-rise, data-row, data-fails, split-below}
 use Rattle.block.specs.declared.Shape.{Shape}
 use Rattle.block.specs.declared.Shape.the-variants.{One, Two}
-use Rattle.block.specs.Shape.{before, rows, digits, dataRowsOf, words}
-use Rattle.block.specs.Stores.{stores, length-stores, stores-hit, stores-miss, stores-all}
+use Rattle.block.specs.Shape.{before, digits, dataRowsOf, words}
+use Rattle.block.specs.Stores.{length-stores, stores-hit, stores-miss, stores-all}
 use Rattle.block.specs.Block.{blank, dataBlock}
 
 -- the rows before the last number below 2 to the digits

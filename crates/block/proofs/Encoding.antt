@@ -1,9 +1,9 @@
 -- Setting the check rows by the words of the sums makes the valid block for the data. Assumes nothing.
 use Prim.Native.Nat.{ℕ, zero, suc, _-_, _^_, _≤_, _<_}
-use mathlib.Core.Bool.{Bool, true, false, not, cond, _&&_}
+use mathlib.Core.Bool.{Bool, true, false, cond, _&&_}
 use mathlib.Core.Path.{_≡_, refl, sym, ap, ap₂, _∙_}
 use mathlib.Core.List.{List, [], _∷_}
-use mathlib.Core.Logic.{_⊎_, inl, inr, ⊎-elim, by-cases}
+use mathlib.Core.Logic.{_⊎_, ⊎-elim, by-cases}
 use native.Mathlib.Decide.{ℕ-discrete}
 use native.Mathlib.Nat.{le-refl}
 use native.Mathlib.Omega.{arith}
@@ -14,17 +14,17 @@ use lib.Pow.{pow-pos, pow-mono, pow-lt}
 use lib.Seq.{getD-set-same, getD-set-other}
 use borrow.Author.Tests.{eq-eqb, ne-eqb, lt-ltb, le-ltb}
 use Rattle.lane.specs.Bit.{bit, _⊕_}
-use Rattle.lane.specs.Lane.{Lane, sum, odd}
+use Rattle.lane.specs.Lane.{sum, odd}
 use Rattle.lane.specs.Rows.{power?, DataRow, covered}
 use Rattle.lane.specs.Encoded.{named, summed, encoded}
 use Rattle.lane.proofs.Bits.{bit-zero, bit-xor, bit-high, bit-ext, ⊕-zero}
-use Rattle.lane.proofs.Rows.{either, split-below, power-found, power-none, data-row}
+use Rattle.lane.proofs.Rows.{either, split-below, power-found, power-none}
 use Rattle.lane.proofs.Exactly.{sum-lt, named-off, named-on, xorDigits, summed-odd, encoded-data}
 use Rattle.block.specs.declared.Shape.{Shape}
 use Rattle.block.specs.declared.Shape.the-variants.{One, Two}
 use Rattle.block.specs.Shape.{before, rows, digits}
-use Rattle.block.specs.Words.{row, lane, word, listOf}
-use Rattle.block.specs.Stores.{stores, length-stores, stores-hit, stores-miss}
+use Rattle.block.specs.Words.{row, lane, word}
+use Rattle.block.specs.Stores.{length-stores, stores-hit, stores-miss}
 use Rattle.block.specs.Block.{dataBlock, validBlock}
 use Rattle.block.specs.Inner.{xorOver, sumsOf, xorAll, withChecks}
 use Rattle.block.proofs.Words.{number-bits}

@@ -17,7 +17,7 @@ use borrow.Author.Tests.{eq-eqb, ne-eqb}
 use Rattle.lane.specs.Bit.{set?, bit, _⊕_}
 use Rattle.lane.proofs.Bits.{bit-zero, bit-xor, bit-and, bit-ext-below, xor-assoc, ⊕-zero}
 use Rattle.lane.proofs.Rows.{power-digit, power-apart}
-use Rattle.block.specs.Words.{number, word, listOf}
+use Rattle.block.specs.Words.{word, listOf}
 use Rattle.block.specs.Inner.{sumAt, rowNamed, flippedIn}
 use Rattle.block.proofs.Words.{number-lt, number-bits, number-same, bit-number}
 

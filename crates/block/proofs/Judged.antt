@@ -1,5 +1,5 @@
 -- The words decide a block as the definitions do: clean, lost or mended, with its count. Assumes nothing.
-use Prim.Native.Nat.{ℕ, zero, suc, _+_, _-_, _%_, _^_, _≤_, _<_}
+use Prim.Native.Nat.{ℕ, zero, suc, _+_, _-_, _^_, _≤_, _<_}
 use mathlib.Core.Bool.{Bool, true, false, not, cond, _&&_, _||_, true≢false}
 use mathlib.Core.Path.{_≡_, refl, sym, ap, ap₂, _∙_}
 use mathlib.Core.List.{List}
@@ -13,22 +13,20 @@ use lib.ListN.{length, getD}
 use borrow.Author.Tests.{eqb-true, not-false, leb-true}
 use Rattle.lane.specs.Bit.{bit, pick}
 use Rattle.lane.specs.Lane.{sum, odd}
-use Rattle.lane.specs.Rows.{covered, allRows}
 use Rattle.lane.specs.Decision.{flipped, lost, decision, decide, lost?, changes}
 use Rattle.lane.proofs.Bits.{bit-zero, bit-and, bit-or, bit-not, bit-ext-below}
 use Rattle.block.specs.declared.Shape.{Shape}
 use Rattle.block.specs.declared.Shape.the-variants.{One, Two}
-use Rattle.block.specs.declared.Verdict.{Verdict}
 use Rattle.block.specs.declared.Verdict.the-variants.{Clean, Mended, Lost}
 use Rattle.block.specs.Shape.{before, rows}
-use Rattle.block.specs.Words.{lane, word, listOf, total}
+use Rattle.block.specs.Words.{lane, total}
 use Rattle.block.specs.Block.{lanesLost, mendedLanes, mendedBlock, bitsChanged}
 use Rattle.block.specs.Verdict.{verdict, verdictOf}
-use Rattle.block.specs.Inner.{xorOver, sumsOf, anyOf, aboveOf, lostLanes, sumAt, rowNamed, flippedIn}
+use Rattle.block.specs.Inner.{sumsOf, anyOf, aboveOf, lostLanes, sumAt, rowNamed, flippedIn}
 use Rattle.block.proofs.Words.{number-same}
 use Rattle.block.proofs.Flips.{listOf-same}
-use Rattle.block.proofs.Lanes.{bit-covered, bit-all, sum-at, bit-any, bit-above, lost-test, total-same, ones-total}
-use Rattle.block.proofs.Blocks.{AllKept, none-counted, counted-none, kept-none, none-kept, mended-kept, mended-lost, unchanged-lanes, changed-odd}
+use Rattle.block.proofs.Lanes.{bit-all, sum-at, bit-any, bit-above, lost-test, total-same, ones-total}
+use Rattle.block.proofs.Blocks.{AllKept, none-counted, counted-none, kept-none, mended-kept, mended-lost, unchanged-lanes, changed-odd}
 
 pub before-small : (shape : Shape) → before shape < 2 ^ 7
 before-small One = lit< tt

@@ -1,21 +1,20 @@
 -- The words that the code computes say of each lane what the definitions say. Assumes nothing.
-use Prim.Native.Nat.{ℕ, zero, suc, _+_, _-_, _*_, _/_, _%_, _^_, _≤_, _<_}
+use Prim.Native.Nat.{ℕ, zero, suc, _+_, _-_, _*_, _/_, _%_, _^_, _<_}
 use mathlib.Core.Bool.{Bool, true, false, not, cond, _&&_, _||_}
 use mathlib.Core.Path.{_≡_, refl, sym, ap, ap₂, _∙_}
 use mathlib.Core.List.{List, [], _∷_, _++_, append-nil}
-use native.Mathlib.Nat.{mod-lt}
+use native.Mathlib.Nat.{mod-lt, pow-suc}
 use native.Mathlib.Omega.{arith}
 use lib.Bits.{bitXor, bitAnd, bitOr, xor-zero-r}
 use lib.Count.{ones, onesIn, ones-step}
 use lib.Dec.{eqb, ltb, leb, eqb·suc-zero}
-use lib.ListN.{length, getD}
+use lib.ListN.{getD}
 use lib.Pow.{pow-pos, mod-pow-add}
-use native.Mathlib.Nat.{pow-suc}
-use borrow.Author.Tests.{eq-eqb, ne-eqb, eqb-true, eqb-false, lt-ltb, le-ltb, ltb-true, ltb-false}
+use borrow.Author.Tests.{ne-eqb, lt-ltb, le-ltb, ltb-true, ltb-false}
 use Rattle.lane.specs.Bit.{set?, bit, _⊕_, pick}
 use Rattle.lane.specs.Lane.{sum, count, odd}
-use Rattle.lane.specs.Rows.{rowsWhere, covered, allRows}
-use Rattle.lane.specs.Decision.{Decision, flipped, lost, decision, lost?}
+use Rattle.lane.specs.Rows.{rowsWhere, covered}
+use Rattle.lane.specs.Decision.{flipped, lost, decision, lost?}
 use Rattle.lane.proofs.Bits.{bit-zero, bit-xor, bit-and, bit-or, bit-shift, xor-swap}
 use Rattle.lane.proofs.Linear.{odd-suc}
 use Rattle.lane.proofs.Exactly.{pick-bit, sum-lt}

@@ -1,5 +1,5 @@
 -- The rule of the tables of rows: each is, by computing, a list of the rows that pass a test, and so its entries are rows. Assumes nothing.
-use Prim.Native.Nat.{ℕ, _≤_, _<_}
+use Prim.Native.Nat.{ℕ, _≤_}
 use mathlib.Core.Bool.{Bool}
 use native.Mathlib.Omega.{arith}
 use Rattle.lane.specs.Rows.{rowsWhere}

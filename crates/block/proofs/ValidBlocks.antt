@@ -5,7 +5,6 @@ use mathlib.Core.Path.{_≡_, refl, sym, ap, _∙_}
 use mathlib.Core.List.{List}
 use mathlib.Core.Logic.{⊎-elim}
 use native.Mathlib.Omega.{arith}
-use lib.Dec.{ltb}
 use lib.ListN.{length, getD, List·getD-eq-default}
 use lib.Pow.{pow-pos}
 use borrow.Author.Tests.{lt-ltb, le-ltb}
@@ -18,13 +17,12 @@ use Rattle.lane.proofs.Rows.{split-below}
 use Rattle.lane.proofs.Exactly.{encoded-valid, encoded-data, encoded-only}
 use Rattle.lane.proofs.Mended.{valid-empty}
 use Rattle.block.specs.declared.Shape.{Shape}
-use Rattle.block.specs.Shape.{before, rows, digits, dataRowsOf, words}
-use Rattle.block.specs.Words.{row, lane, word, listOf}
-use Rattle.block.specs.Block.{ValidBlock, blank, dataBlock, validBlock, dataOf}
+use Rattle.block.specs.Shape.{before, rows, digits, words}
+use Rattle.block.specs.Words.{row, lane, word}
+use Rattle.block.specs.Block.{ValidBlock, dataBlock, validBlock, dataOf, SameRows, Fitting}
 use Rattle.block.proofs.Words.{row-at, bit-number, number-lt, number-bits}
 use Rattle.block.proofs.Flips.{getD-listOf, length-listOf, list-is}
-use Rattle.block.proofs.Data.{before-digits, before-lt, dataRow, entry-row, row-entry, data-hit, data-lt, data-miss}
-use Rattle.block.specs.Block.{SameRows, Fitting}
+use Rattle.block.proofs.Data.{before-digits, before-lt, dataRow, entry-row, row-entry, data-hit, data-lt}
 use Rattle.block.proofs.Blocks.{rows-same}
 
 module _ (shape : Shape) (list : List ℕ) where

@@ -1,8 +1,8 @@
 -- Every worked example holds of the definitions: the laws turn each into words, and the words are computed. Assumes nothing.
-use Prim.Native.Nat.{ℕ, zero, suc, _+_}
+use Prim.Native.Nat.{ℕ, suc, _+_}
 use mathlib.Core.Bool.{true}
 use mathlib.Core.Path.{_≡_, refl, ap, ap₂, _∙_}
-use mathlib.Core.List.{List, [], _∷_, map}
+use mathlib.Core.List.{List, _∷_, map}
 use native.Mathlib.Omega.{arith}
 use lib.Bits.{bitXor, bitOr}
 use lib.ListN.{length, set}

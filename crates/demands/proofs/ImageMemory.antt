@@ -14,8 +14,7 @@ use Rattle.lane.proofs.Linear.{count-same}
 use Rattle.block.specs.declared.Shape.{Shape}
 use Rattle.block.specs.Shape.{before, rows, words}
 use Rattle.block.specs.Words.{lane}
-use Rattle.block.specs.Block.{lanesLost, mendedBlock, validBlock, dataOf}
-use Rattle.block.specs.Block.{Near, SameRows, Fitting}
+use Rattle.block.specs.Block.{lanesLost, mendedBlock, validBlock, dataOf, Near, SameRows, Fitting}
 use Rattle.block.proofs.Blocks.{near-none, near-rows, mended-fits}
 use Rattle.block.proofs.Judged.{rows-fit}
 use Rattle.block.proofs.ValidBlocks.{length-valid, valid-out, valid-fits, valid-is}

@@ -5,10 +5,9 @@ use mathlib.Core.List.{List}
 use lib.ListN.{length}
 use Rattle.block.specs.declared.Shape.{Shape}
 use Rattle.block.specs.Shape.{rows}
-use Rattle.block.specs.Block.{dataOf, lanesLost, mendedBlock}
+use Rattle.block.specs.Block.{dataOf, lanesLost, mendedBlock, Fitting}
 use Rattle.block.specs.Verdict.{verdictOf}
 use Rattle.block.proofs.Judged.{rows-fit}
-use Rattle.block.specs.Block.{Fitting}
 use Rattle.block.proofs.Blocks.{mended-lost}
 use Rattle.block.proofs.ValidBlocks.{valid-is, holds-data, valid-only}
 use Rattle.store.specs.declared.Answer.the-variants.{Found}

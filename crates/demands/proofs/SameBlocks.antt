@@ -15,8 +15,7 @@ use Rattle.lane.proofs.Rows.{split-below}
 use Rattle.block.specs.declared.Shape.{Shape}
 use Rattle.block.specs.Shape.{before, rows, words}
 use Rattle.block.specs.Words.{row, lane}
-use Rattle.block.specs.Block.{validBlock, dataOf}
-use Rattle.block.specs.Block.{SameRows, Fitting}
+use Rattle.block.specs.Block.{validBlock, dataOf, SameRows, Fitting}
 use Rattle.block.proofs.Data.{dataRow, entry-row}
 use Rattle.block.proofs.Flips.{list-is, listOf-same}
 use Rattle.block.proofs.ValidBlocks.{valid-only, zero-valid}

@@ -1,7 +1,7 @@
 -- The worked examples 1 to 12, as one list: what the definitions give, and what they must give.
 -- Shape 1 unless said; rows not named are zero. Assumes nothing.
 use Prim.Native.Nat.{ℕ, zero, suc, _-_}
-use mathlib.Core.List.{List, [], _∷_, map}
+use mathlib.Core.List.{List, [], _∷_}
 use lib.ListN.{set, replicate}
 use Rattle.block.specs.declared.Shape.{Shape}
 use Rattle.block.specs.declared.Shape.the-variants.{One, Two}

@@ -5,8 +5,7 @@ use mathlib.Core.Path.{_≡_}
 use mathlib.Core.List.{List}
 use mathlib.Core.Logic.{_↔_}
 use Rattle.block.specs.declared.Shape.{Shape}
-use Rattle.block.specs.Block.{ValidBlock, dataOf, bitsChanged, lanesLost}
-use Rattle.block.specs.Block.{Near, SameRows, Fitting}
+use Rattle.block.specs.Block.{ValidBlock, dataOf, bitsChanged, lanesLost, Near, SameRows, Fitting}
 use Rattle.store.specs.declared.Answer.{Answer}
 use Rattle.store.specs.Answer.{answerNumber, answerVerdict, answerCount}
 use Rattle.store.specs.Image.{gathered, Untouched}

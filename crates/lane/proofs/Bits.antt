@@ -1,13 +1,13 @@
 -- The bits of an exclusive or, and its laws. Assumes nothing.
-use Prim.Native.Nat.{ℕ, zero, suc, _+_, _*_, _/_, _%_, _^_, _-_, _≤_, _<_, min, max}
+use Prim.Native.Nat.{ℕ, zero, suc, _+_, _/_, _%_, _^_, _-_, _≤_, _<_}
 use mathlib.Core.Bool.{Bool, true, false, not, _&&_, _||_}
-use mathlib.Core.Path.{_≡_, refl, sym, ap, ap₂, _∙_}
-use native.Mathlib.Nat.{div-one, add-zero, pow-suc, mod-lt, div-add-mod', zero-lt-suc}
+use mathlib.Core.Path.{_≡_, refl, sym, ap, _∙_}
+use native.Mathlib.Nat.{div-one, add-zero, pow-suc, mod-lt, zero-lt-suc}
 use native.Mathlib.Omega.{arith}
 use lib.Arith.{bin-ind}
 use lib.Pow.{shr-shr}
 use native.Mathlib.Numerals.{one-add}
-use lib.Bits.{bitXor, bitAnd, bitOr, xor-shr, xor-mod, and-shr, and-mod, or-shr, or-mod, xor-self, xor-comm, xor-zero-r}
+use lib.Bits.{bitXor, bitAnd, bitOr, xor-shr, xor-mod, and-shr, and-mod, or-shr, or-mod, xor-self, xor-zero-r}
 use Rattle.lane.specs.Bit.{set?, bit, _⊕_, pick}
 
 pub ⊕-zero : (b : Bool) → b ⊕ false ≡ b

@@ -1,16 +1,16 @@
 -- The decision is right in all five cases. Assumes nothing.
 use Prim.Native.Nat.{ℕ, zero, suc, _+_, _≤_, _<_}
 use mathlib.Core.Bool.{Bool, true, false, cond, true≢false}
-use mathlib.Core.Path.{_≡_, refl, sym, ap, ap₂, _∙_}
+use mathlib.Core.Path.{_≡_, refl, sym, ap, _∙_}
 use mathlib.Core.Logic.{_⊎_, inl, inr, ⊎-elim}
-use native.Mathlib.Nat.{eq-or-lt-of-le, le-of-suc-le-suc, le-refl}
+use native.Mathlib.Nat.{eq-or-lt-of-le, le-refl}
 use native.Mathlib.Omega.{arith}
 use lib.Bits.{bitXor, xor-zero-r, xor-self}
 use lib.Dec.{leb, eqb}
 use borrow.Author.Tests.{leb-true, leb-false, eq-eqb, ne-eqb}
 use Rattle.lane.specs.Bit.{bit, _⊕_, pick}
 use Rattle.lane.specs.Lane.{Lane, sum, count, odd, Valid, diff, apart}
-use Rattle.lane.specs.Decision.{Decision, unchanged, lost, flipped, decision, decide, Right}
+use Rattle.lane.specs.Decision.{lost, flipped, decision, decide, Right}
 use Rattle.lane.proofs.Bits.{⊕-zero, bit-one}
 use Rattle.lane.proofs.Linear.{sum-diff, odd-diff}
 use Rattle.lane.proofs.Distance.{Weight, weight}

@@ -1,12 +1,12 @@
 -- A valid lane with at most three ones has none, so valid lanes that differ in at most three rows are equal. Assumes nothing.
-use Prim.Native.Nat.{ℕ, zero, suc, _+_, _*_, _≤_, _<_}
-use mathlib.Core.Bool.{Bool, true, false, not, _&&_}
-use mathlib.Core.Path.{_≡_, refl, sym, ap, ap₂, _∙_}
+use Prim.Native.Nat.{ℕ, zero, suc, _+_, _≤_, _<_}
+use mathlib.Core.Bool.{Bool, true, false}
+use mathlib.Core.Path.{_≡_, refl, sym, ap, _∙_}
 use mathlib.Core.Logic.{⊎-elim}
 use native.Mathlib.Nat.{eq-or-lt-of-le, le-of-suc-le-suc}
 use native.Mathlib.Omega.{arith}
 use lib.Bits.{bitXor, xor-zero-r}
-use Rattle.lane.specs.Bit.{set?, bit, _⊕_, pick}
+use Rattle.lane.specs.Bit.{bit, _⊕_, pick}
 use Rattle.lane.specs.Lane.{Lane, sum, count, Valid, diff, apart}
 use Rattle.lane.proofs.Bits.{xor-cancel}
 use Rattle.lane.proofs.Linear.{valid-diff}

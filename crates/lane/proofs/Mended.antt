@@ -1,11 +1,11 @@
 -- What the decision leaves: a valid lane, one change in an odd lane and none in an even one, and the lane that was meant. Assumes nothing.
 use Prim.Native.Nat.{ℕ, zero, suc, _+_, _≤_, _<_}
-use mathlib.Core.Bool.{Bool, true, false, true≢false, cond, _&&_}
-use mathlib.Core.Path.{_≡_, refl, sym, ap, ap₂, _∙_}
+use mathlib.Core.Bool.{Bool, true, false, true≢false, cond}
+use mathlib.Core.Path.{_≡_, refl, sym, ap, _∙_}
 use native.Mathlib.Nat.{le-refl}
 use native.Mathlib.Omega.{arith}
-use lib.Bits.{bitXor, xor-zero-r}
-use lib.Dec.{leb, eqb}
+use lib.Bits.{xor-zero-r}
+use lib.Dec.{leb}
 use borrow.Author.Tests.{leb-true}
 use Rattle.lane.specs.Bit.{bit, _⊕_, pick}
 use Rattle.lane.specs.Lane.{Lane, sum, count, odd, Valid, diff, apart}

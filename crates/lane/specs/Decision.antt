@@ -2,7 +2,6 @@
 use Prim.Native.Nat.{ℕ, zero, suc, _≤_}
 use mathlib.Core.Bool.{Bool, true, false, cond}
 use lib.Dec.{leb, eqb}
-use Rattle.lane.specs.Bit.{_⊕_}
 use Rattle.lane.specs.Lane.{Lane, sum, odd, diff, apart, Valid}
 
 pub data Decision : Type 0 where

@@ -1,6 +1,6 @@
 -- Format sets every word to zero and gives a record: the shape, s, G, next block 0, no asks waiting.
 -- A refused format, which was handed no record, gives one of zeros. Assumes nothing.
-use Prim.Native.Nat.{ℕ, zero, suc}
+use Prim.Native.Nat.{ℕ}
 use mathlib.Core.Path.{_≡_}
 use mathlib.Core.List.{List}
 use lib.ListN.{length, replicate}

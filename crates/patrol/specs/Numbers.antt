@@ -2,7 +2,6 @@
 -- count are 0 where no ask was served. Assumes nothing.
 use Prim.Native.Nat.{ℕ}
 use mathlib.Core.List.{List, [], _∷_}
-use Rattle.block.specs.declared.Verdict.{Verdict}
 use Rattle.block.specs.Verdict.{verdictNumber, verdictCount}
 use Rattle.patrol.specs.declared.Report.{Report}
 use Rattle.patrol.specs.declared.Report.the-variants.{Refused, One, Two}

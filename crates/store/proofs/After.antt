@@ -15,10 +15,9 @@ use Rattle.lane.proofs.Rows.{split-below}
 use Rattle.block.specs.declared.Shape.{Shape}
 use Rattle.block.specs.Shape.{before, rows}
 use Rattle.block.specs.Words.{lane, number}
-use Rattle.block.specs.Block.{ifZero, lanesLost, mendedLanes, mendedBlock, validBlock}
+use Rattle.block.specs.Block.{ifZero, lanesLost, mendedLanes, mendedBlock, validBlock, Fitting}
 use Rattle.block.proofs.Words.{number-same}
 use Rattle.block.proofs.Flips.{getD-listOf}
-use Rattle.block.specs.Block.{Fitting}
 use Rattle.block.proofs.Blocks.{length-lanes, length-mended, mended-fits}
 use Rattle.block.proofs.ValidBlocks.{length-valid, valid-out, valid-fits}
 use Rattle.store.specs.Image.{gathered, placed, Untouched}

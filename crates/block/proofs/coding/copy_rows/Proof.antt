@@ -1,10 +1,10 @@
 -- `block::coding::copy_rows` meets its contract. The loop's invariant: the words passed are copied. Assumes nothing.
-use Prim.Native.Nat.{ℕ, _≤_, _<_, _-_}
+use Prim.Native.Nat.{_≤_, _-_}
 use mathlib.Core.Path.{_≡_, refl, sym, ap, _∙_}
 use mathlib.Core.Logic.{⊎-elim}
 use native.Mathlib.Numerals.{add-one}
 use native.Mathlib.Omega.{arith}
-use lib.ListN.{length, getD, set, length-set}
+use lib.ListN.{length, getD, length-set}
 use lib.Seq.{set-out}
 use Rattle.block.specs.Words.{row}
 use Rattle.block.specs.Stores.{stores, length-stores}

@@ -1,6 +1,6 @@
 -- `block::coding::data_into` meets its contract: its tables are, by computing, the data rows of each shape. Assumes nothing.
 use mathlib.Core.Bool.{not}
-use mathlib.Core.Path.{_≡_, sym, ap, _∙_}
+use mathlib.Core.Path.{sym, ap, _∙_}
 use native.Mathlib.Omega.{arith}
 use borrow.Author.Needs.{needs}
 use Rattle.lane.specs.Rows.{power?, rowsWhere}

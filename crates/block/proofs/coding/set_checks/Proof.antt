@@ -1,5 +1,5 @@
 -- `block::coding::set_checks` meets its contract. The loop's invariant: the check rows passed are set. Assumes nothing.
-use Prim.Native.Nat.{ℕ, _≤_, _<_, _-_, _^_}
+use Prim.Native.Nat.{ℕ, _≤_, _-_, _^_}
 use mathlib.Core.Path.{_≡_, refl, ap, _∙_}
 use native.Mathlib.Nat.{pow-suc}
 use native.Mathlib.Numerals.{add-one}

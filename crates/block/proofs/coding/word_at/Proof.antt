@@ -1,5 +1,5 @@
 -- `block::coding::word_at` meets its contract.  Assumes nothing.
-use mathlib.Core.Path.{_≡_, sym}
+use mathlib.Core.Path.{sym}
 use lib.ListN.{List·getD-eq-default}
 use borrow.Author.Needs.{needs}
 use Rattle.block.proofs.coding.word_at.Statement.{statement}

@@ -5,7 +5,6 @@ use mathlib.Core.Logic.{⊎-elim}
 use native.Mathlib.Numerals.{add-one}
 use native.Mathlib.Omega.{arith}
 use lib.Pow.{shr-shr}
-use Rattle.lane.specs.Bit.{bit}
 use Rattle.block.specs.Inner.{aboveOf}
 use Rattle.block.proofs.Words.{digit-one, digit-zero}
 use borrow.Author.Needs.{needs}

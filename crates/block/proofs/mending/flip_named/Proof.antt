@@ -5,7 +5,6 @@ use mathlib.Core.Path.{_≡_, ap, _∙_}
 use native.Mathlib.Nat.{le-refl}
 use native.Mathlib.Omega.{arith}
 use lib.Count.{trailingZeros}
-use borrow.Author.Needs.{needs}
 use Rattle.lane.specs.Bit.{bit}
 use Rattle.block.specs.Inner.{sumAt}
 use Rattle.block.proofs.Flips.{trailing-set, clear-less, one-lane, named-there, doneBut, none-done, all-done, next-done, next-within}

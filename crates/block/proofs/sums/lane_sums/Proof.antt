@@ -1,5 +1,5 @@
 -- `block::sums::lane_sums` meets its contract, shape by shape. Assumes nothing.
-use mathlib.Core.Path.{_≡_, sym, ap, _∙_}
+use mathlib.Core.Path.{sym, ap, _∙_}
 use borrow.Author.Needs.{needs}
 use Rattle.block.specs.declared.Shape.{Shape}
 use Rattle.block.specs.Inner.{sumsOf}

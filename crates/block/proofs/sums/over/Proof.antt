@@ -1,14 +1,12 @@
 -- `block::sums::over` meets its contract. The loop's invariant: the sum is that of the rows passed. Assumes nothing.
-use Prim.Native.Nat.{ℕ, _≤_, _<_, _-_}
+use Prim.Native.Nat.{ℕ, _≤_, _-_}
 use mathlib.Core.Path.{_≡_, refl, ap, _∙_}
 use mathlib.Core.List.{List}
 use native.Mathlib.Numerals.{add-one}
 use native.Mathlib.Omega.{arith}
-use lib.Bits.{bitXor}
 use lib.ListN.{length, getD, take}
 use lib.Seq.{take-all}
 use borrow.Author.Needs.{needs}
-use Rattle.block.specs.Words.{row}
 use Rattle.block.specs.Inner.{xorOver}
 use Rattle.block.proofs.Words.{row-at, xor-more}
 use Rattle.block.proofs.sums.over.Statement.{statement}
