@@ -18,26 +18,32 @@ static const uint8_t data_rows_72[64] = {
     39, 40, 41, 42, 43, 44, 45, 46, 47, 48, 49, 50, 51, 52, 53, 54, 55, 56, 57, 58, 59, 60, 61, 62, 63, 65, 66, 67, 68, 69, 70, 71,
 };
 
-/* The rows that each check row but the last covers; the check row itself stands first. */
-static const uint8_t covered_16[4][8] = {
-    { 1, 3, 5, 7, 9, 11, 13, 15 },
-    { 2, 3, 6, 7, 10, 11, 14, 15 },
+/* The rows that the check rows cover. Rows 1, 2 and the last share theirs, listed by the last two binary digits. */
+static const uint8_t ending_16[4][4] = {
+    { 4, 8, 12, 16 },
+    { 1, 5, 9, 13 },
+    { 2, 6, 10, 14 },
+    { 3, 7, 11, 15 },
+};
+static const uint8_t covered_16[2][8] = {
     { 4, 5, 6, 7, 12, 13, 14, 15 },
     { 8, 9, 10, 11, 12, 13, 14, 15 },
 };
-static const uint8_t covered_72[7][36] = {
-    { 1, 3, 5, 7, 9, 11, 13, 15, 17, 19, 21, 23, 25, 27, 29, 31, 33, 35,
-      37, 39, 41, 43, 45, 47, 49, 51, 53, 55, 57, 59, 61, 63, 65, 67, 69, 71 },
-    { 2, 3, 6, 7, 10, 11, 14, 15, 18, 19, 22, 23, 26, 27, 30, 31, 34, 35,
-      38, 39, 42, 43, 46, 47, 50, 51, 54, 55, 58, 59, 62, 63, 66, 67, 70, 71 },
-    { 4, 5, 6, 7, 12, 13, 14, 15, 20, 21, 22, 23, 28, 29, 30, 31, 36, 37,
-      38, 39, 44, 45, 46, 47, 52, 53, 54, 55, 60, 61, 62, 63, 68, 69, 70, 71 },
-    { 8, 9, 10, 11, 12, 13, 14, 15, 24, 25, 26, 27, 28, 29, 30, 31,
-      40, 41, 42, 43, 44, 45, 46, 47, 56, 57, 58, 59, 60, 61, 62, 63 },
-    { 16, 17, 18, 19, 20, 21, 22, 23, 24, 25, 26, 27, 28, 29, 30, 31,
-      48, 49, 50, 51, 52, 53, 54, 55, 56, 57, 58, 59, 60, 61, 62, 63 },
-    { 32, 33, 34, 35, 36, 37, 38, 39, 40, 41, 42, 43, 44, 45, 46, 47,
-      48, 49, 50, 51, 52, 53, 54, 55, 56, 57, 58, 59, 60, 61, 62, 63 },
+static const uint8_t ending_72[4][18] = {
+    { 4, 8, 12, 16, 20, 24, 28, 32, 36, 40, 44, 48, 52, 56, 60, 64, 68, 72 },
+    { 1, 5, 9, 13, 17, 21, 25, 29, 33, 37, 41, 45, 49, 53, 57, 61, 65, 69 },
+    { 2, 6, 10, 14, 18, 22, 26, 30, 34, 38, 42, 46, 50, 54, 58, 62, 66, 70 },
+    { 3, 7, 11, 15, 19, 23, 27, 31, 35, 39, 43, 47, 51, 55, 59, 63, 67, 71 },
+};
+static const uint8_t covered_72[5][36] = {
+    { 4, 5, 6, 7, 12, 13, 14, 15, 20, 21, 22, 23, 28, 29, 30, 31, 36, 37, 38, 39, 44, 45, 46, 47, 52, 53, 54, 55, 60,
+      61, 62, 63, 68, 69, 70, 71 },
+    { 8, 9, 10, 11, 12, 13, 14, 15, 24, 25, 26, 27, 28, 29, 30, 31, 40, 41, 42, 43, 44, 45, 46, 47, 56, 57, 58, 59,
+      60, 61, 62, 63 },
+    { 16, 17, 18, 19, 20, 21, 22, 23, 24, 25, 26, 27, 28, 29, 30, 31, 48, 49, 50, 51, 52, 53, 54, 55, 56, 57, 58, 59,
+      60, 61, 62, 63 },
+    { 32, 33, 34, 35, 36, 37, 38, 39, 40, 41, 42, 43, 44, 45, 46, 47, 48, 49, 50, 51, 52, 53, 54, 55, 56, 57, 58, 59,
+      60, 61, 62, 63 },
     { 64, 65, 66, 67, 68, 69, 70, 71 },
 };
 
@@ -80,44 +86,43 @@ INLINE void scatter(const gathered *b, uint32_t *at, uint32_t s, unsigned rows)
     for (unsigned p = 0; p < rows; p++, at += s) *at = b->row[p];
 }
 
-INLINE uint32_t covered(const gathered *b, const uint8_t *list, unsigned n)
+INLINE uint32_t covered(const uint32_t *row, const uint8_t *list, unsigned n)
 {
     uint32_t x = 0;
 #pragma GCC unroll 36
-    for (unsigned i = 0; i < n; i++) x ^= b->row[list[i] - 1];
+    for (unsigned i = 0; i < n; i++) x ^= row[list[i] - 1];
     return x;
 }
 
-INLINE uint32_t every_row(const gathered *b, unsigned rows)
+/* Digits 0 and 1 and the parities, from the rows by the last two binary digits of their numbers. */
+INLINE void look_low(findings *f, uint32_t end_00, uint32_t end_01, uint32_t end_10, uint32_t end_11)
 {
-    uint32_t x = 0;
-#pragma GCC unroll 72
-    for (unsigned p = 0; p < rows; p++) x ^= b->row[p];
-    return x;
+    f->digit[0] = end_01 ^ end_11;
+    f->digit[1] = end_10 ^ end_11;
+    f->odd = f->digit[0] ^ end_00 ^ end_10;
 }
 
-INLINE findings look_16(const gathered *b)
+INLINE findings look_16(const uint32_t *row)
 {
     findings f;
-    f.odd = every_row(b, 16);
-#pragma GCC unroll 4
-    for (unsigned k = 0; k < 4; k++) f.digit[k] = covered(b, covered_16[k], 8);
+    look_low(&f, covered(row, ending_16[0], 4), covered(row, ending_16[1], 4), covered(row, ending_16[2], 4), covered(row, ending_16[3], 4));
+#pragma GCC unroll 2
+    for (unsigned k = 2; k < 4; k++) f.digit[k] = covered(row, covered_16[k - 2], 8);
     return f;
 }
 
-INLINE findings look_72(const gathered *b)
+INLINE findings look_72(const uint32_t *row)
 {
     findings f;
-    f.odd = every_row(b, 72);
+    look_low(&f, covered(row, ending_72[0], 18), covered(row, ending_72[1], 18), covered(row, ending_72[2], 18), covered(row, ending_72[3], 18));
+    f.digit[2] = covered(row, covered_72[0], 36);
 #pragma GCC unroll 3
-    for (unsigned k = 0; k < 3; k++) f.digit[k] = covered(b, covered_72[k], 36);
-#pragma GCC unroll 3
-    for (unsigned k = 3; k < 6; k++) f.digit[k] = covered(b, covered_72[k], 32);
-    f.digit[6] = covered(b, covered_72[6], 8);
+    for (unsigned k = 3; k < 6; k++) f.digit[k] = covered(row, covered_72[k - 2], 32);
+    f.digit[6] = covered(row, covered_72[4], 8);
     return f;
 }
 
-INLINE findings look(const gathered *b, uint32_t shape) { return shape == 1 ? look_16(b) : look_72(b); }
+INLINE findings look(const uint32_t *row, uint32_t shape) { return shape == 1 ? look_16(row) : look_72(row); }
 
 INLINE uint32_t any_digit(const findings *f, uint32_t shape)
 {
@@ -163,8 +168,8 @@ INLINE outcome decide(const findings *f, uint32_t shape)
 INLINE outcome visit_as(uint32_t *at, uint32_t s, uint32_t shape)
 {
     gathered b;
-    gather(&b, at, s, rows_of(shape));
-    findings f = look(&b, shape);
+    if (s != 1) gather(&b, at, s, rows_of(shape));
+    findings f = look(s == 1 ? at : b.row, shape);
     outcome o = decide(&f, shape);
     if (o.verdict == MENDED) mend(&f, at, s, shape);
     return o;
@@ -180,7 +185,7 @@ INLINE outcome read_as(const uint32_t *at, uint32_t s, uint32_t shape, uint32_t 
     gathered b;
     const uint8_t *data_rows = shape == 1 ? data_rows_16 : data_rows_72;
     gather(&b, at, s, rows_of(shape));
-    findings f = look(&b, shape);
+    findings f = look(b.row, shape);
     outcome o = decide(&f, shape);
     if (o.verdict == LOST) return o;
     if (o.verdict == MENDED) mend(&f, b.row, 1, shape);
@@ -210,10 +215,11 @@ INLINE void write_as(uint32_t *at, uint32_t s, uint32_t shape, const uint32_t *d
     gathered b;
     unsigned rows = rows_of(shape);
     place(&b, shape, data);
-    findings f = look(&b, shape);
+    findings f = look(b.row, shape);
+    uint32_t last = f.odd;
 #pragma GCC unroll 7
-    for (unsigned k = 0; k < digits_of(shape); k++) b.row[(1u << k) - 1] = f.digit[k];
-    b.row[rows - 1] = every_row(&b, rows);
+    for (unsigned k = 0; k < digits_of(shape); k++) last ^= b.row[(1u << k) - 1] = f.digit[k];
+    b.row[rows - 1] = last;
     scatter(&b, at, s, rows);
 }
 

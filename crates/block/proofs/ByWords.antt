@@ -12,14 +12,14 @@ use borrow.Author.Tests.{ltb-true}
 use Rattle.lane.specs.Bit.{bit, pick}
 use Rattle.block.specs.declared.Shape.{Shape}
 use Rattle.block.specs.declared.Verdict.the-variants.{Mended, Lost}
-use Rattle.block.specs.Shape.{before}
+use Rattle.block.specs.Shape.{before, rows}
 use Rattle.block.specs.Words.{total}
 use Rattle.block.specs.Block.{dataBlock, validBlock, mendedBlock}
 use Rattle.block.specs.Verdict.{verdictOf}
 use Rattle.block.specs.Inner.{sumsOf, anyOf, lostLanes, flippedIn, xorAll, withChecks}
 use Rattle.block.proofs.Flips.{getD-listOf}
 use Rattle.block.proofs.Lanes.{ones-total}
-use Rattle.block.proofs.Judged.{lost-lt, lost-verdict, lost-block, mended-verdict, mended-block}
+use Rattle.block.proofs.Judged.{rows-fit, lost-lt, lost-verdict, lost-block, mended-verdict, mended-block}
 use Rattle.block.proofs.Encoding.{xor-over-lt, built}
 
 -- every word of a list fits in 32 bits
@@ -71,17 +71,20 @@ module _ (shape : Shape) (block : List ℕ) (fit : fit? block ≡ true) (long : 
   any-small : anyOf 7 digits < 2 ^ 32
   any-small = any-lt 7 (omega arith)
 
+  whole : rows shape ≤ length block
+  whole = let h = rows-fit shape in omega arith
+
   -- a lost block: how many lanes, and the block as it was
   pub lost-by-words : (lost ≡ 0 → ⊥) → (verdictOf shape block ≡ Lost (bits lost)) × (mendedBlock shape block ≡ block)
   lost-by-words ne = (
-    sym (ap Lost (sym (ones-total 32 lost (lost-lt shape block parity-lt any-small))) ∙ lost-verdict shape block parity-lt any-small long ne),
-    sym (lost-block shape block parity-lt any-small long ne),
+    sym (ap Lost (sym (ones-total 32 lost (lost-lt shape block parity-lt any-small))) ∙ lost-verdict shape block parity-lt any-small whole ne),
+    sym (lost-block shape block parity-lt any-small whole ne),
   )
 
   -- a mended block: how many odd lanes, and the row that each one's sum names flipped
   pub mended-by-words : lost ≡ 0 → (bitOr (anyOf 7 digits) parity ≡ 0 → ⊥)
       → (verdictOf shape block ≡ Mended (bits parity)) × (mendedBlock shape block ≡ flippedIn (before shape + 1) digits (λ i. bit i parity) block)
   mended-by-words z ne = (
-    sym (ap Mended (sym (ones-total 32 parity parity-lt)) ∙ mended-verdict shape block parity-lt any-small long z ne),
-    sym (mended-block shape block parity-lt any-small long z),
+    sym (ap Mended (sym (ones-total 32 parity parity-lt)) ∙ mended-verdict shape block parity-lt any-small whole z ne),
+    sym (mended-block shape block parity-lt any-small whole z),
   )

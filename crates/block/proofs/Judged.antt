@@ -126,10 +126,7 @@ module _ (shape : Shape) (block : List ℕ) where
     odd-count : ones parity ≡ total 32 (λ i. pick (oddLane i) 1)
     odd-count = ones-total 32 parity hp ∙ total-same 32 _ _ (λ i hi. ap (λ (b : Bool). pick b 1) (lane-odd i))
 
-    module _ (long : length block ≡ 72) where
-      fit : rows shape ≤ length block
-      fit = let h = rows-fit shape in omega arith
-
+    module _ (fit : rows shape ≤ length block) where
       changed-ones : AllKept shape block → bitsChanged shape block (mendedBlock shape block) ≡ ones parity
       changed-ones k = ap (bitsChanged shape block) (mended-kept shape block (kept-none shape block k)) ∙ changed-odd shape block fit k ∙ sym odd-count
 

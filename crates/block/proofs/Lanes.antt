@@ -34,18 +34,19 @@ xor-where test n block = go (test (suc n))
     go true = xor-snoc (rowsWhere test n) (suc n) block
     go false = ap (λ (l : List ℕ). xorOver l block) (append-nil (rowsWhere test n)) ∙ sym (xor-zero-r (xorOver (rowsWhere test n) block))
 
--- the rows that pass a test and those that fail it are all rows
-pub xor-all-rows : (test : ℕ → Bool) (n : ℕ) (block : List ℕ)
-    → bitXor (xorOver (rowsWhere test n) block) (xorOver (rowsWhere (λ p. not (test p)) n) block) ≡ xorOver (rowsWhere (λ p. true) n) block
-xor-all-rows test zero block = unfold rowsWhere in (unfold xorOver in refl)
-xor-all-rows test (suc n) block =
-    ap₂ bitXor (xor-where test n block) (xor-where (λ p. not (test p)) n block)
-    ∙ xor-swap (xorOver (rowsWhere test n) block) _ (xorOver (rowsWhere (λ p. not (test p)) n) block) _
-    ∙ ap₂ bitXor (xor-all-rows test n block) (one (test (suc n)) (row (suc n) block)) ∙ sym (xor-where (λ p. true) n block)
+-- the rows that pass a test are those that pass another too, and those that fail it
+pub xor-parts : (t u : ℕ → Bool) (n : ℕ) (block : List ℕ)
+    → bitXor (xorOver (rowsWhere (λ p. t p && u p) n) block) (xorOver (rowsWhere (λ p. t p && not (u p)) n) block) ≡ xorOver (rowsWhere t n) block
+xor-parts t u zero block = unfold rowsWhere in (unfold xorOver in refl)
+xor-parts t u (suc n) block =
+    ap₂ bitXor (xor-where (λ p. t p && u p) n block) (xor-where (λ p. t p && not (u p)) n block)
+    ∙ xor-swap (xorOver (rowsWhere (λ p. t p && u p) n) block) _ (xorOver (rowsWhere (λ p. t p && not (u p)) n) block) _
+    ∙ ap₂ bitXor (xor-parts t u n block) (one (t (suc n)) (u (suc n)) (row (suc n) block)) ∙ sym (xor-where t n block)
   where
-    one : (b : Bool) (w : ℕ) → bitXor (pick b w) (pick (not b) w) ≡ w
-    one true w = xor-zero-r w
-    one false w = refl
+    one : (a b : Bool) (w : ℕ) → bitXor (pick (a && b) w) (pick (a && not b) w) ≡ pick a w
+    one true true w = xor-zero-r w
+    one true false w = refl
+    one false b w = refl
 
 and-comm : (a b : Bool) → a && b ≡ b && a
 and-comm true true = refl

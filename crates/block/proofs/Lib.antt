@@ -1,9 +1,11 @@
 pub mod Words
 pub mod Listed
+pub mod Stored
 pub mod Flips
 pub mod Lanes
 pub mod Blocks
 pub mod Judged
+pub mod Looked
 pub mod Data
 pub mod Encoding
 pub mod ValidBlocks

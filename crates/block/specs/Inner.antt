@@ -1,21 +1,26 @@
 -- What the code computes on its way, 32 lanes at once: a word for each digit of the lanes' sums. Assumes nothing.
-use Prim.Native.Nat.{ℕ, zero, suc, _-_, _^_, _≤_, _<_}
-use mathlib.Core.Bool.{Bool, cond, _&&_}
+use Prim.Native.Nat.{ℕ, zero, suc, _+_, _-_, _^_, _≤_, _<_}
+use mathlib.Core.Bool.{Bool, not, cond, _&&_}
+use mathlib.Core.Path.{_≡_}
 use mathlib.Core.List.{List, [], _∷_}
-use lib.ListN.{length, getD}
+use lib.ListN.{length, getD, drop}
 use lib.Bits.{bitXor, bitAnd, bitOr}
 use lib.Dec.{eqb}
 use Rattle.lane.specs.Bit.{bit}
-use Rattle.lane.specs.Rows.{covered, allRows}
+use Rattle.lane.specs.Rows.{rowsWhere, covered, allRows}
 use Rattle.block.specs.declared.Shape.{Shape}
 use Rattle.block.specs.declared.sums.Sums.{Sums}
-use Rattle.block.specs.Shape.{before}
+use Rattle.block.specs.Shape.{before, rows}
 use Rattle.block.specs.Words.{row, number, word, listOf}
 use Rattle.block.specs.Stores.{stores}
 
 -- every entry of a list is the number of a row
 abbrev pub Listed : List ℕ → Type 0
 Listed list = (k : ℕ) → k < length list → (1 ≤ getD list k 0) × (getD list k 0 ≤ 72)
+
+-- every entry of a list is the number of a row of the block at `at`, and its word is among the first len
+abbrev pub ListedFrom : ℕ → ℕ → List ℕ → Type 0
+ListedFrom at len list = (k : ℕ) → k < length list → (1 ≤ getD list k 0) × (at + getD list k 0 ≤ len)
 
 -- the exclusive or of the words of the listed rows
 unfoldable pub xorOver : List ℕ → List ℕ → ℕ
@@ -34,6 +39,22 @@ sumsOf shape block =
 unfoldable pub anyOf : ℕ → List ℕ → ℕ
 anyOf zero digits = zero
 anyOf (suc k) digits = bitOr (anyOf k digits) (getD digits k 0)
+
+-- the even rows, those that check row 1 does not cover
+abbrev pub evenRows : ℕ → List ℕ
+evenRows m = rowsWhere (λ p. not (bit 0 p)) (suc m)
+
+-- digit k of every lane's sum, and last the exclusive or of the even rows
+abbrev pub sumWords : Shape → List ℕ → List ℕ
+sumWords shape block =
+    let digit : ℕ → ℕ = λ k. xorOver (covered k (before shape)) block in
+    digit 0 ∷ digit 1 ∷ digit 2 ∷ digit 3 ∷ digit 4 ∷ digit 5 ∷ digit 6 ∷ xorOver (evenRows (before shape)) block ∷ []
+
+-- what is found of the block at `at`: its sums, and the lanes in which one is set; 1 where the block is not all there
+abbrev pub Looked : Shape → ℕ → List ℕ → ℕ → List ℕ → Type 0
+Looked shape at words found sums =
+    (at + rows shape ≤ length words → (sums ≡ sumWords shape (drop at words)) × (found ≡ anyOf 8 (sumWords shape (drop at words))))
+    × ((at + rows shape ≤ length words → ⊥) → found ≡ 1)
 
 -- the lanes whose first k digits make a number above those of top
 unfoldable pub aboveOf : ℕ → ℕ → List ℕ → ℕ

@@ -1,10 +1,14 @@
 -- Clean 0: block valid, nothing changed. Mended m: no lane lost, m bits changed. Lost m: m lanes are lost.
 -- The verdicts are numbered 1 clean, 2 mended, 3 lost. Assumes nothing.
-use Prim.Native.Nat.{ℕ, zero, suc}
+use Prim.Native.Nat.{ℕ, zero, suc, _+_}
+use mathlib.Core.Bool.{Bool, true, false, _&&_}
 use mathlib.Core.List.{List}
+use lib.Dec.{leb}
+use lib.ListN.{length, drop}
 use Rattle.block.specs.declared.Shape.{Shape}
 use Rattle.block.specs.declared.Verdict.{Verdict}
 use Rattle.block.specs.declared.Verdict.the-variants.{Clean, Mended, Lost}
+use Rattle.block.specs.Shape.{rows}
 use Rattle.block.specs.Block.{lanesLost, bitsChanged, mendedBlock}
 
 abbrev pub verdictNumber : Verdict → ℕ
@@ -25,3 +29,12 @@ verdict (suc l) m = Lost (suc l)
 
 unfoldable pub verdictOf : Shape → List ℕ → Verdict
 verdictOf shape block = verdict (lanesLost shape block) (bitsChanged shape block (mendedBlock shape block))
+
+abbrev pub clean? : Verdict → Bool
+clean? Clean = true
+clean? (Mended m) = false
+clean? (Lost m) = false
+
+-- do the words from `at` on begin with a block that is all there and valid
+unfoldable pub validFrom : Shape → ℕ → List ℕ → Bool
+validFrom shape at words = leb (at + rows shape) (length words) && clean? (verdictOf shape (drop at words))

@@ -7,6 +7,7 @@ mod tables;
 pub use coding::data_into;
 pub use coding::encode;
 pub use mending::decide;
+pub use sums::valid;
 
 pub enum Shape {
     One,

@@ -1,22 +1,26 @@
 // The rows of each shape, by their numbers: the data rows, and for each check row the rows that it covers.
+// Check rows 1, 2 and the last share their rows, listed once, by the last two binary digits; the last row covers all four lists.
 
 // The data rows of shape 1.
 pub const DATA_ONE: [u8; 11] = [3, 5, 6, 7, 9, 10, 11, 12, 13, 14, 15];
 
-// The rows that check row 1 covers.
-pub const COVERED_ONE_1: [u8; 8] = [1, 3, 5, 7, 9, 11, 13, 15];
+// The rows of shape 1 whose number ends in 01: check row 1 covers them, 2 does not.
+pub const ENDING_ONE_01: [u8; 4] = [1, 5, 9, 13];
 
-// The rows that check row 2 covers.
-pub const COVERED_ONE_2: [u8; 8] = [2, 3, 6, 7, 10, 11, 14, 15];
+// The rows of shape 1 whose number ends in 11: check rows 1 and 2 cover them.
+pub const ENDING_ONE_11: [u8; 4] = [3, 7, 11, 15];
+
+// The rows of shape 1 whose number ends in 10: check row 2 covers them, 1 does not.
+pub const ENDING_ONE_10: [u8; 4] = [2, 6, 10, 14];
+
+// The rows of shape 1 whose number ends in 00: neither check row 1 nor 2 covers them.
+pub const ENDING_ONE_00: [u8; 4] = [4, 8, 12, 16];
 
 // The rows that check row 4 covers.
 pub const COVERED_ONE_4: [u8; 8] = [4, 5, 6, 7, 12, 13, 14, 15];
 
 // The rows that check row 8 covers.
 pub const COVERED_ONE_8: [u8; 8] = [8, 9, 10, 11, 12, 13, 14, 15];
-
-// The rows that check row 16, the last, covers beside those of check row 1.
-pub const COVERED_ONE_16: [u8; 8] = [2, 4, 6, 8, 10, 12, 14, 16];
 
 // The data rows of shape 2.
 pub const DATA_TWO: [u8; 64] = [
@@ -86,84 +90,92 @@ pub const DATA_TWO: [u8; 64] = [
     71,
 ];
 
-// The rows that check row 1 covers.
-pub const COVERED_TWO_1: [u8; 36] = [
+// The rows of shape 2 whose number ends in 01: check row 1 covers them, 2 does not.
+pub const ENDING_TWO_01: [u8; 18] = [
     1,
-    3,
     5,
-    7,
     9,
-    11,
     13,
-    15,
     17,
-    19,
     21,
-    23,
     25,
-    27,
     29,
-    31,
     33,
-    35,
     37,
-    39,
     41,
-    43,
     45,
-    47,
     49,
-    51,
     53,
-    55,
     57,
-    59,
     61,
-    63,
     65,
-    67,
     69,
+];
+
+// The rows of shape 2 whose number ends in 11: check rows 1 and 2 cover them.
+pub const ENDING_TWO_11: [u8; 18] = [
+    3,
+    7,
+    11,
+    15,
+    19,
+    23,
+    27,
+    31,
+    35,
+    39,
+    43,
+    47,
+    51,
+    55,
+    59,
+    63,
+    67,
     71,
 ];
 
-// The rows that check row 2 covers.
-pub const COVERED_TWO_2: [u8; 36] = [
+// The rows of shape 2 whose number ends in 10: check row 2 covers them, 1 does not.
+pub const ENDING_TWO_10: [u8; 18] = [
     2,
-    3,
     6,
-    7,
     10,
-    11,
     14,
-    15,
     18,
-    19,
     22,
-    23,
     26,
-    27,
     30,
-    31,
     34,
-    35,
     38,
-    39,
     42,
-    43,
     46,
-    47,
     50,
-    51,
     54,
-    55,
     58,
-    59,
     62,
-    63,
     66,
-    67,
     70,
-    71,
+];
+
+// The rows of shape 2 whose number ends in 00: neither check row 1 nor 2 covers them.
+pub const ENDING_TWO_00: [u8; 18] = [
+    4,
+    8,
+    12,
+    16,
+    20,
+    24,
+    28,
+    32,
+    36,
+    40,
+    44,
+    48,
+    52,
+    56,
+    60,
+    64,
+    68,
+    72,
 ];
 
 // The rows that check row 4 covers.
@@ -316,43 +328,3 @@ pub const COVERED_TWO_32: [u8; 32] = [
 
 // The rows that check row 64 covers.
 pub const COVERED_TWO_64: [u8; 8] = [64, 65, 66, 67, 68, 69, 70, 71];
-
-// The rows that check row 72, the last, covers beside those of check row 1.
-pub const COVERED_TWO_72: [u8; 36] = [
-    2,
-    4,
-    6,
-    8,
-    10,
-    12,
-    14,
-    16,
-    18,
-    20,
-    22,
-    24,
-    26,
-    28,
-    30,
-    32,
-    34,
-    36,
-    38,
-    40,
-    42,
-    44,
-    46,
-    48,
-    50,
-    52,
-    54,
-    56,
-    58,
-    60,
-    62,
-    64,
-    66,
-    68,
-    70,
-    72,
-];

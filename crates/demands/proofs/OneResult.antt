@@ -1,11 +1,12 @@
 -- One result: two outcomes that satisfy the promise of a public function are equal, answer and every lent word. Assumes nothing.
 use Prim.Native.Nat.{ℕ}
+use mathlib.Core.Bool.{Bool}
 use mathlib.Core.Path.{_≡_, sym, _∙_}
 use mathlib.Core.List.{List}
 use Rattle.block.specs.declared.Shape.{Shape}
 use Rattle.block.specs.declared.Verdict.{Verdict}
 use Rattle.block.specs.Block.{validBlock, mendedBlock, dataInto}
-use Rattle.block.specs.Verdict.{verdictOf}
+use Rattle.block.specs.Verdict.{verdictOf, validFrom}
 use Rattle.store.specs.declared.Answer.{Answer}
 use Rattle.store.specs.Refusal.{geometryRefusal, layoutRefusal, blockRung}
 use Rattle.store.specs.Write.{Writes}
@@ -51,7 +52,7 @@ module _ (len shape s g block : ℕ) (a b : ℕ) where
   pub one-block : a ≡ blockRung s g block → b ≡ blockRung s g block → a ≡ b
   one-block p q = both p q
 
--- ---- one gathered block
+-- ---- one block
 
 module _ (shape : Shape) (block a b : List ℕ) where
   pub one-encode : (list : List ℕ) → a ≡ validBlock shape list → b ≡ validBlock shape list → a ≡ b
@@ -60,6 +61,9 @@ module _ (shape : Shape) (block a b : List ℕ) where
   pub one-decide : (v w : Verdict) → (v ≡ verdictOf shape block) × (a ≡ mendedBlock shape block) → (w ≡ verdictOf shape block) × (b ≡ mendedBlock shape block)
       → (v ≡ w) × (a ≡ b)
   one-decide v w p q = (both (p .0) (q .0), both (p .1) (q .1))
+
+  pub one-valid : (at : ℕ) (v w : Bool) → v ≡ validFrom shape at block → w ≡ validFrom shape at block → v ≡ w
+  one-valid at v w p q = both p q
 
   pub one-data : (buffer : List ℕ) → a ≡ dataInto shape block buffer → b ≡ dataInto shape block buffer → a ≡ b
   one-data buffer p q = both p q

@@ -1,24 +1,11 @@
 -- What write and visit leave: the block that they place, and nothing else changed. Assumes nothing.
-use Prim.Native.Nat.{ℕ, zero, suc, _≤_, _<_}
-use mathlib.Core.Bool.{false}
-use mathlib.Core.Path.{_≡_, refl, ap, _∙_}
+use Prim.Native.Nat.{ℕ, zero, suc, _≤_}
+use mathlib.Core.Path.{_≡_, refl, _∙_}
 use mathlib.Core.List.{List}
-use mathlib.Core.Logic.{⊎-elim}
-use native.Mathlib.Omega.{arith}
-use lib.Bits.{bitXor}
-use lib.ListN.{length, getD, List·getD-eq-default}
-use borrow.Author.Tests.{ne-eqb}
-use Rattle.lane.specs.Lane.{Lane}
-use Rattle.lane.specs.Decision.{Decision, unchanged, lost, flipped, Right, decide, changes}
-use Rattle.lane.proofs.Decided.{decided}
-use Rattle.lane.proofs.Rows.{split-below}
+use lib.ListN.{length, getD}
 use Rattle.block.specs.declared.Shape.{Shape}
-use Rattle.block.specs.Shape.{before, rows}
-use Rattle.block.specs.Words.{lane, number}
-use Rattle.block.specs.Block.{ifZero, lanesLost, mendedLanes, mendedBlock, validBlock, Fitting}
-use Rattle.block.proofs.Words.{number-same}
-use Rattle.block.proofs.Flips.{getD-listOf}
-use Rattle.block.proofs.Blocks.{length-lanes, length-mended, mended-fits}
+use Rattle.block.specs.Block.{ifZero, mendedBlock, validBlock, Fitting}
+use Rattle.block.proofs.Blocks.{length-mended, mended-fits}
 use Rattle.block.proofs.ValidBlocks.{length-valid, valid-out, valid-fits}
 use Rattle.store.specs.Image.{gathered, placed, Untouched}
 use Rattle.store.specs.Refusal.{visitRefusal, dataRefusal}
@@ -28,32 +15,7 @@ use Rattle.store.specs.Write.{writeAfter}
 use Rattle.store.proofs.Image.{length-gathered, gathered-rest, gathered-words, placed-words, same-untouched, placed-untouched, gathered-placed}
 use Rattle.store.proofs.Index.{in-range}
 use Rattle.store.proofs.Ladder.{Accepted, accepted, data-accepted}
-
--- ---- a mended block is zero past its rows
-
-no-change : (m : ℕ) (f : Lane) (d : Decision) → Right m f d → (p : ℕ) → suc m < p → changes d p ≡ false
-no-change m f unchanged r p h = refl
-no-change m f lost r p h = refl
-no-change m f (flipped q) r p h = ne-eqb p q (λ e. omega (arith, r .1))
-
-pub mended-rest : (shape : Shape) (block : List ℕ) → ((k : ℕ) → rows shape ≤ k → getD block k 0 ≡ 0)
-    → (k : ℕ) → rows shape ≤ k → getD (mendedBlock shape block) k 0 ≡ 0
-unfolding mendedBlock mendedLanes number
-mended-rest shape block rest k h = by (lanesLost shape block)
-  where
-    lanes : getD (mendedLanes shape block) k 0 ≡ 0
-    lanes =
-        ⊎-elim
-        (λ l.
-        getD-listOf (length block) _ k l
-        ∙ ap (bitXor (getD block k 0)) (number-same 32 (λ i. changes (decide (before shape) (lane i block)) (suc k)) (λ i. false) (λ i hi. no-change (before shape) (lane i block) (decide (before shape) (lane i block)) (decided (before shape) (lane i block)) (suc k) (omega arith)))
-        ∙ ap (λ (w : ℕ). bitXor w 0) (rest k h))
-        (λ l. List·getD-eq-default (mendedLanes shape block) 0 {n = k} (rw (length-lanes shape block) l))
-        (split-below k (length block))
-
-    by : (n : ℕ) → getD (ifZero n (mendedLanes shape block) block) k 0 ≡ 0
-    by zero = lanes
-    by (suc n) = rest k h
+use Rattle.store.proofs.Rows.{mended-past}
 
 -- ---- an image with a block placed where nothing was refused
 
@@ -99,7 +61,7 @@ module _ (image : List ℕ) (shape s g block : ℕ) where
       rw e
       (held (accepted (length image) shape s g block e) (mendedBlock (shapeOf shape) (gathered (shapeOf shape) s block image)) image refl
       (length-mended (shapeOf shape) (gathered (shapeOf shape) s block image) ∙ length-gathered (shapeOf shape) s block image)
-      (mended-rest (shapeOf shape) (gathered (shapeOf shape) s block image) (gathered-rest (shapeOf shape) s block image)))
+      (λ k h. mended-past (shapeOf shape) (gathered (shapeOf shape) s block image) k h ∙ gathered-rest (shapeOf shape) s block image k h))
 
   -- ---- write
 

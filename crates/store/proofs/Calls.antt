@@ -1,14 +1,14 @@
 -- What a call that has its place answers and leaves, from what its steps gave: the rows gathered, the verdict, the rows scattered. Assumes nothing.
-use Prim.Native.Nat.{ℕ, _≤_}
-use mathlib.Core.Path.{_≡_, sym, ap, ap₂, _∙_}
+use Prim.Native.Nat.{ℕ}
+use mathlib.Core.Path.{_≡_, refl, sym, ap, ap₂, _∙_}
 use mathlib.Core.List.{List, [], _∷_}
 use native.Mathlib.Omega.{arith}
 use lib.ListN.{length, getD}
-use types.Run.{OneOf}
+use types.Run.{OneOf, hit}
 use denote.Enum.Declared.{tagOf}
 use Rattle.block.specs.declared.Shape.{Shape}
 use Rattle.block.specs.declared.Verdict.{Verdict}
-use Rattle.block.specs.declared.Verdict.the-variants.{Lost}
+use Rattle.block.specs.declared.Verdict.the-variants.{Clean, Lost}
 use Rattle.block.specs.Shape.{rows, words, dataRowsOf}
 use Rattle.block.specs.Words.{row}
 use Rattle.block.specs.Stores.{length-stores, stores-hit}
@@ -16,7 +16,6 @@ use Rattle.block.specs.Block.{blank, validBlock, mendedBlock, dataInto, dataOf}
 use Rattle.block.specs.Verdict.{verdictOf}
 use Rattle.block.proofs.Verdict.{the-type}
 use Rattle.block.proofs.Flips.{list-is}
-use Rattle.block.proofs.Judged.{rows-fit}
 use Rattle.store.specs.declared.Answer.the-variants.{Refused, Stored, Found}
 use Rattle.store.specs.Inner.{strideRead, strideWrite}
 use Rattle.store.specs.Image.{gathered, placed}
@@ -26,9 +25,10 @@ use Rattle.store.specs.Refusal.{visitRefusal, dataRefusal}
 use Rattle.store.specs.Shapes.{shapeOf}
 use Rattle.store.specs.Visit.{visitAnswer, visitAfter, Visits}
 use Rattle.store.proofs.Answers.{answered-refused, refused-kept}
-use Rattle.store.proofs.Image.{length-gathered, gathered-stride, placed-stride, placed-gathered}
+use Rattle.store.proofs.Image.{gathered-stride, placed-stride}
 use Rattle.store.proofs.Located.{Located, list-fits}
-use Rattle.store.proofs.Verdicts.{lost-some, not-lost, not-mended}
+use Rattle.store.proofs.Strides.{left}
+use Rattle.store.proofs.Verdicts.{lost-some, not-lost}
 
 -- a buffer of the exact length holds the data words alone
 data-fills : (shape : Shape) (block buffer : List ℕ) → length buffer ≡ words shape → dataInto shape block buffer ≡ dataOf shape block
@@ -88,29 +88,14 @@ module _ (image : List ℕ) {shape s g block : ℕ} {kind : Shape} {at : ℕ} (p
     mends : (mended : List ℕ) → mended ≡ mendedBlock kind found → mended ≡ mendedBlock (shapeOf shape) (gathered (shapeOf shape) s block image)
     mends mended e = e ∙ ap₂ mendedBlock (place .same-shape) seen
 
-    long : rows (shapeOf shape) ≤ length (gathered (shapeOf shape) s block image)
-    long = rw (length-gathered (shapeOf shape) s block image) (rows-fit (shapeOf shape))
-
-    visit-answer : Found v ≡ visitAnswer image shape s g block
-    unfolding visitAnswer
-    visit-answer = rw (place .passed) (ap Found judged)
-
-    pub visit-mended : (mended after : List ℕ) → mended ≡ mendedBlock kind found → after ≡ strideWrite image at s mended (rows kind)
+    pub visit-found : (after : List ℕ) → after ≡ strideWrite image at s (mendedBlock kind found) (rows kind)
         → Visits image shape s g block (Found v) after
-    unfolding visitAfter
-    visit-mended mended after e w =
+    unfolding visitAnswer visitAfter
+    visit-found after w =
         record {
-          answers = visit-answer;
-          leaves = rw (place .passed) (w ∙ back mended ∙ ap (λ (l : List ℕ). placed (shapeOf shape) s block l image) (mends mended e));
-        }
-
-    pub visit-left : OneOf (0 ∷ 2 ∷ []) (tagOf the-type v) → Visits image shape s g block (Found v) image
-    unfolding visitAfter
-    visit-left keys =
-        record {
-          answers = visit-answer;
-          leaves = rw (place .passed, not-mended (shapeOf shape) (gathered (shapeOf shape) s block image) v judged long keys)
-              (sym (placed-gathered (shapeOf shape) s block image));
+          answers = rw (place .passed) (ap Found judged);
+          leaves = rw (place .passed)
+              (w ∙ back (mendedBlock kind found) ∙ ap (λ (l : List ℕ). placed (shapeOf shape) s block l image) (mends (mendedBlock kind found) refl));
         }
 
     module _ (buffer : List ℕ) (fits : length buffer ≡ words kind) where
@@ -136,3 +121,7 @@ module _ (image : List ℕ) {shape s g block : ℕ} {kind : Shape} {at : ℕ} (p
             leaves = rw (list-fits place (length buffer) fits, not-lost (shapeOf shape) (gathered (shapeOf shape) s block image) v judged keys)
                 (a ∙ data-fills kind mended buffer fits ∙ ap₂ dataOf (place .same-shape) (mends mended e));
           }
+
+  -- a valid block is left where it lies
+  pub visit-clean : Clean ≡ verdictOf kind (strideRead image at s blank (rows kind)) → Visits image shape s g block (Found Clean) image
+  visit-clean says = visit-found _ refl Clean says image (left image kind at s Clean says (hit (0 ∷ 2 ∷ []) 0 tt))

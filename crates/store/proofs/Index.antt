@@ -7,10 +7,16 @@ use lib.Arith.{digits-lt, digits-div, digits-mod}
 use Rattle.store.specs.Layout.{blocks, index}
 
 -- the first row, and the others a stride apart
-pub first-row : (rows s block : ℕ) → (block - block % s) * rows + block % s ≡ index rows s block 1
+pub first-row : (rows s block : ℕ) → rows * (block - block % s) + block % s ≡ index rows s block 1
 first-row rows s block =
     let e : block - block % s ≡ block / s * s = omega (arith, div-add-mod' block s) in
-    omega (arith, ap (λ (n : ℕ). n * rows) e, mul-right-comm (block / s) s rows, zero-mul s)
+    omega (arith, mul-comm rows (block - block % s), ap (λ (n : ℕ). n * rows) e, mul-right-comm (block / s) s rows, zero-mul s)
+
+-- without interleave
+pub first-alone : (rows block : ℕ) → rows * block ≡ index rows 1 block 1
+first-alone rows block =
+    let e : block ≡ block - block % 1 = omega arith in
+    omega (arith, ap (λ (n : ℕ). rows * n) e, first-row rows 1 block)
 
 row-up : (k s : ℕ) → (suc k - 1) * s ≡ k * s
 row-up k s = let e : suc k - 1 ≡ k = omega arith in ap (λ (n : ℕ). n * s) e

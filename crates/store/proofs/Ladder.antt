@@ -5,9 +5,9 @@ use mathlib.Core.Path.{_≡_, refl, sym, subst, _∙_}
 use mathlib.Core.List.{List, [], _∷_, _++_}
 use mathlib.Core.Logic.{_⊎_, inl, inr, ⊎-elim}
 use native.Mathlib.Decide.{ℕ-discrete}
-use native.Mathlib.Nat.{lt-of-not-le}
+use native.Mathlib.Nat.{zero-mul, suc-mul, lt-of-not-le}
 use native.Mathlib.Omega.{arith}
-use borrow.Author.Tests.{eqb-false, eqb-true, ltb-false, ltb-true, leb-false, leb-true, not-false, not-true}
+use borrow.Author.Tests.{eq-eqb, ne-eqb, eqb-false, eqb-true, ltb-false, ltb-true, leb-false, leb-true, not-false, not-true}
 use lib.Dec.{T, ltb, leb, eqb}
 use Rattle.store.specs.Layout.{blocks}
 use Rattle.store.specs.Shapes.{rowsOf, wordsOf}
@@ -48,6 +48,13 @@ pub groups-rung : (s g : ℕ) → Rung (badGroups s g) (groupsRung s g)
 groups-rung s g =
     rung-tests (badGroups s g) (eqb g 0) (ltb 4096 (blocks s g)) (λ e. inl (eqb-true g 0 e)) (λ e. inr (ltb-true 4096 (blocks s g) e))
     (λ e f. ⊎-elim (eqb-false g 0 e) (λ l. let m = ltb-false 4096 (blocks s g) f in omega arith))
+
+-- where s is not 0, no groups are no blocks
+pub no-blocks : (s g : ℕ) → (s ≡ 0 → ⊥) → eqb g 0 ≡ eqb (blocks s g) 0
+no-blocks zero g ne = absurd (ne refl)
+no-blocks (suc s) zero ne = sym (eq-eqb (blocks (suc s) 0) 0 (zero-mul (suc s)))
+no-blocks (suc s) (suc g) ne =
+    ne-eqb (suc g) 0 (λ e. omega arith) ∙ sym (ne-eqb (blocks (suc s) (suc g)) 0 (λ e. omega (arith, suc-mul g (suc s))))
 
 pub length-rung : (len shape s g : ℕ) → Rung (badLength len shape s g) (lengthRung len shape s g)
 length-rung len shape s g =

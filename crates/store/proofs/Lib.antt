@@ -6,5 +6,7 @@ pub mod Image
 pub mod Located
 pub mod Answers
 pub mod Verdicts
+pub mod Rows
+mod Strides
 mod Calls
 pub mod After

@@ -41,6 +41,10 @@ located len shape s g block kind at e = by (visitRefusal len shape s g block) re
     by zero p q = record { passed = p; same-shape = cc; first = cc }
     by (suc n) p q = let z : _≡_ {A = ℕ} 0 1 = cc in absurd (omega arith)
 
+pub is-place : {len shape s g block : ℕ} {kind : Shape} {at : ℕ} → Located len shape s g block kind at → At kind at ≡ placeOf len shape s g block
+unfolding placeOf
+is-place l = rw (l .passed, l .same-shape, l .first)
+
 -- its rows lie in the image
 pub rows-inside : {len shape s g block : ℕ} {kind : Shape} {at : ℕ} → Located len shape s g block kind at → Inside len (rows kind) at s
 rows-inside {len} {shape} {s} {g} {block} {kind} {at} l =

@@ -1,4 +1,5 @@
 // A block's rows between the image and an array: gathered, and scattered.
+// A shared image is lent on as `&*image`, which the compiler passes as a bare pointer.
 ghost use mathlib.Core.Path.{_≡_};
 ghost use Prim.Native.Nat.{_≤_};
 ghost use lib.ListN.{length};
@@ -24,9 +25,9 @@ fn take(image: &[u32], rows: usize, at: usize, s: usize, block: &mut [u32; 72])
     ensures { λ r. ⌜ now (block .exit) ≡ strideRead (now (image .entry)) at s (now (block .entry)) rows ⌝ }
 {
     if s == 1 {
-        take_rows(image, rows, at, 1, block);
+        take_rows(&*image, rows, at, 1, block);
     } else {
-        take_rows(image, rows, at, s, block);
+        take_rows(&*image, rows, at, s, block);
     }
 }
 
@@ -48,8 +49,8 @@ pub(crate) fn gather(image: &[u32], shape: Shape, at: usize, s: usize, block: &m
     ensures { λ r. ⌜ now (block .exit) ≡ strideRead (now (image .entry)) at s (now (block .entry)) (rows shape) ⌝ }
 {
     match shape {
-        Shape::One => take(image, 16, at, s, block),
-        Shape::Two => take(image, 72, at, s, block),
+        Shape::One => take(&*image, 16, at, s, block),
+        Shape::Two => take(&*image, 72, at, s, block),
     }
 }
 

@@ -4,6 +4,7 @@ ghost use Rattle.block.specs.Shape.{words};
 ghost use Rattle.store.specs.Inner.{placeOf};
 use super::refusals::check_block;
 use super::refusals::check_layout;
+use super::refusals::rows_of;
 use block::Shape;
 
 pub(crate) enum Place {
@@ -35,11 +36,13 @@ pub(crate) fn locate(len: usize, shape: u32, s: u32, g: u32, block: u32) -> Plac
     if number != 0 {
         return Place::Nowhere(number);
     }
-    let place = (block % s) as usize;
-    let whole = (block as usize) - place;
-    if shape == 1 {
-        Place::At(Shape::One, whole * 16 + place)
-    } else {
-        Place::At(Shape::Two, whole * 72 + place)
+    let rows = rows_of(shape);
+    let kind = if shape == 1 { Shape::One } else { Shape::Two };
+    let whole = block as usize;
+    // Without interleave no division is wanted.
+    if s == 1 {
+        return Place::At(kind, rows * whole);
     }
+    let place = whole % (s as usize);
+    Place::At(kind, rows * (whole - place) + place)
 }

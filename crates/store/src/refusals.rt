@@ -27,17 +27,18 @@ pub fn check_geometry(shape: u32, s: u32, g: u32) -> u32
     if 16 < s {
         return 2;
     }
-    if g == 0 {
+    let n = blocks_in(s, g);
+    if n == 0 {
         return 3;
     }
-    if 4096 < blocks_in(s, g) {
+    if 4096 < n {
         return 3;
     }
     0
 }
 
 // The rows of a block of a shape.
-fn rows_of(shape: u32) -> usize
+pub(crate) fn rows_of(shape: u32) -> usize
     ensures { λ r. ⌜ r ≡ rowsOf shape ⌝ }
 {
     if shape == 1 { 16 } else { 72 }

@@ -1,5 +1,5 @@
 -- `block::mending::decide` meets its contract: the words judge the block as the definitions do. Assumes nothing.
-use Prim.Native.Nat.{ℕ, _+_, _-_, _^_, _<_}
+use Prim.Native.Nat.{ℕ, _+_, _-_, _^_, _≤_, _<_}
 use mathlib.Core.Path.{_≡_, sym, ap, ap₂, _∙_}
 use mathlib.Core.List.{List}
 use native.Mathlib.Omega.{arith}
@@ -11,7 +11,7 @@ use Rattle.lane.specs.Bit.{bit}
 use Rattle.block.specs.declared.Shape.{Shape}
 use Rattle.block.specs.declared.sums.Sums.{Sums}
 use Rattle.block.specs.declared.Verdict.the-variants.{Mended, Lost}
-use Rattle.block.specs.Shape.{before}
+use Rattle.block.specs.Shape.{before, rows}
 use Rattle.block.specs.Inner.{sumsOf, anyOf, aboveOf, lostLanes, sumAt, flippedIn}
 use Rattle.block.proofs.Judged.{before-small, rows-fit, clean-verdict, clean-block, lost-verdict, lost-block, named-low, mended-verdict, mended-block}
 use Rattle.block.proofs.mending.decide.Statement.{statement}
@@ -47,8 +47,8 @@ module _ (c : tie.After-any) where
   any-lt : anyOf 7 (sumsOf shape block .digits) < 2 ^ 32
   any-lt = let h : c .any .result < 2 ^ 32 = omega arith in omega (arith, any-is)
 
-  long : length block ≡ 72
-  long = c .before .before .before .before .lane-sums-arg2 .given .0
+  long : rows shape ≤ length block
+  long = omega (arith, c .before .before .before .before .lane-sums-arg2 .given .0, rows-fit shape)
 
   -- no lane has a sum or is odd
   none-is : bitOr (c .any .result) (c .before .before .before .lane-sums .result .parity) ≡ bitOr (anyOf 7 (sumsOf shape block .digits)) (sumsOf shape block .parity)

@@ -6,6 +6,7 @@ use lib.ListN.{length}
 use Rattle.block.specs.Shape.{words}
 use Rattle.store.proofs.Calls.{read-refused, read-lost, read-data}
 use Rattle.store.proofs.Located.{Located, located, rows-inside, data-refused, list-refused}
+use Rattle.store.proofs.Strides.{read-size}
 use Rattle.store.proofs.reading.read.Statement.{statement}
 use Rattle.store.proofs.reading.read.Tie as tie
 
@@ -46,17 +47,23 @@ returns c =
 gather-requires : tie.Need-gather-requires
 gather-requires c κs = rows-inside (place (c .before .before .before))
 
-decide-requires : tie.Need-decide-requires
-decide-requires c κs = search needs
+copied : (c : tie.After-gather) → length (c .gather .last .1 .1 .1 .1 .0) ≡ 72
+copied c = rw (c .gather .ensures) (read-size _ (c .before .before .before .before .before .kind .given .0 .0) _ _)
+
+slice-aggregate-mend-copy : tie.Need-slice-aggregate-mend-copy
+slice-aggregate-mend-copy c = sym (copied (c .before))
+
+mend-copy-requires : tie.Need-mend-copy-requires
+mend-copy-requires c κs = copied (c .before)
 
 enum-told : tie.Need-enum-told
 enum-told c = search needs
 
 returns-2 : tie.Need-returns-2
 returns-2 c =
-    let p = place (c .before .before .before .before .before .before .before .before) in
-    let exact = fits (c .before .before .before .before .before .before) in
-    read-lost _ p _ (c .before .before .before .before .gather .ensures) _ (c .before .before .decide .ensures .0) _ exact _ (c .enum-told .given .1)
+    let p = place (c .before .before .before .before .before .before .before .before .before) in
+    let exact = fits (c .before .before .before .before .before .before .before) in
+    read-lost _ p _ (c .before .before .before .before .before .gather .ensures) _ (c .before .before .before .mend-copy .ensures .0) _ exact _ (c .enum-told .given .1)
 
 data-into-requires : tie.Need-data-into-requires
 data-into-requires c κs = search needs
@@ -71,11 +78,11 @@ same-length c = search needs
 
 returns-4 : tie.Need-returns-4
 returns-4 c =
-    let p = place (c .before .before .before .before .before .before .before .before .before .before .before .before) in
-    let exact = fits (c .before .before .before .before .before .before .before .before .before .before) in
-    let took = c .before .before .before .before .before .before .before .before .gather .ensures in
-    let decided = c .before .before .before .before .before .before .decide .ensures in
-    read-data _ p _ took _ (decided .0) _ exact (c .before .before .before .before .before .match2 .keys2) _ _ (decided .1) (c .before .before .data-into .ensures)
+    let p = place (c .before .before .before .before .before .before .before .before .before .before .before .before .before) in
+    let exact = fits (c .before .before .before .before .before .before .before .before .before .before .before) in
+    let took = c .before .before .before .before .before .before .before .before .before .gather .ensures in
+    let mends = c .before .before .before .before .before .before .before .mend-copy .ensures in
+    read-data _ p _ took _ (mends .0) _ exact (c .before .before .before .before .before .match2 .keys2) _ _ (mends .1) (c .before .before .data-into .ensures)
 
 pub read-spec : {M : Type 1} → statement M
 read-spec =
@@ -87,7 +94,8 @@ read-spec =
     words-of-requires
     returns
     gather-requires
-    decide-requires
+    slice-aggregate-mend-copy
+    mend-copy-requires
     enum-told
     returns-2
     data-into-requires

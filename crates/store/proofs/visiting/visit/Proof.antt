@@ -1,9 +1,10 @@
--- `store::visiting::visit` meets its contract: refused, mended and scattered, or clean or lost and left as it is. Assumes nothing.
-use mathlib.Core.Path.{sym, _∙_}
+-- `store::visiting::visit` meets its contract: refused, valid where it lies, or mended. Assumes nothing.
+use mathlib.Core.Path.{refl, sym, _∙_}
 use borrow.Author.Needs.{needs}
 use lib.ListN.{length}
-use Rattle.store.proofs.Calls.{visit-refused, visit-mended, visit-left}
+use Rattle.store.proofs.Calls.{visit-refused, visit-found, visit-clean}
 use Rattle.store.proofs.Located.{Located, located, refused, rows-inside}
+use Rattle.store.proofs.Strides.{clean-there}
 use Rattle.store.proofs.visiting.visit.Statement.{statement}
 use Rattle.store.proofs.visiting.visit.Tie as tie
 
@@ -27,27 +28,19 @@ enum-known-number c = search needs
 enum-known-kind : tie.Need-enum-known-kind
 enum-known-kind c = search needs
 
-gather-requires : tie.Need-gather-requires
-gather-requires c κs = rows-inside (place (c .before .before))
-
-decide-requires : tie.Need-decide-requires
-decide-requires c κs = search needs
-
-enum-told : tie.Need-enum-told
-enum-told c = search needs
-
-scatter-requires : tie.Need-scatter-requires
-scatter-requires c κs = rows-inside (place (c .before .before .before .before .before .before .before .before .before))
+valid-requires : tie.Need-valid-requires
+valid-requires c κs = search needs
 
 same-length : tie.Need-same-length
 same-length c = search needs
 
 returns : tie.Need-returns
 returns c =
-    let p = place (c .before .before .before .before .before .before .before .before .before .before .before .before) in
-    let took = c .before .before .before .before .before .before .before .before .before .gather .ensures in
-    let decided = c .before .before .before .before .before .before .before .decide .ensures in
-    visit-mended _ p _ took _ (decided .0) _ _ (decided .1) (c .before .before .scatter .ensures)
+    let there = sym (c .before .valid .ensures) ∙ c .if2 .taken in
+    visit-clean _ (place (c .before .before .before .before)) (clean-there _ _ _ _ there (c .before .before .before .if1 .taken))
+
+mend-requires : tie.Need-mend-requires
+mend-requires c κs = rows-inside (place (c .before .before))
 
 returns-2 : tie.Need-returns-2
 returns-2 c =
@@ -59,8 +52,9 @@ same-length-2 c = search needs
 
 returns-3 : tie.Need-returns-3
 returns-3 c =
-    let p = place (c .before .before .before .before .before .before) in
-    visit-left _ p _ (c .before .before .before .gather .ensures) _ (c .before .decide .ensures .0) (c .match2 .keys2)
+    let p = place (c .before .before .before .before .before) in
+    let mends = c .before .before .mend .ensures in
+    visit-found _ p _ refl _ (mends .0) _ (mends .1)
 
 pub visit-spec : {M : Type 1} → statement M
 visit-spec =
@@ -69,12 +63,10 @@ visit-spec =
     locate-requires
     enum-known-number
     enum-known-kind
-    gather-requires
-    decide-requires
-    enum-told
-    scatter-requires
+    valid-requires
     same-length
     returns
+    mend-requires
     returns-2
     same-length-2
     returns-3)
