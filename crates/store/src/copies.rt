@@ -19,7 +19,7 @@ fn take_rows(image: &[u32], rows: usize, at: usize, s: usize, block: &mut [u32; 
     }
 }
 
-// As take_rows; without interleave the words are neighbours, which the compiler copies many at a time.
+// As take_rows, with the stride as a constant where the words are neighbours: the compiler copies them many at a time.
 fn take(image: &[u32], rows: usize, at: usize, s: usize, block: &mut [u32; 72])
     requires { ⌜ (rows ≤ 72) × Inside (length (now image)) rows at s ⌝ }
     ensures { λ r. ⌜ now (block .exit) ≡ strideRead (now (image .entry)) at s (now (block .entry)) rows ⌝ }
@@ -43,6 +43,18 @@ fn put_rows(image: &mut [u32], rows: usize, at: usize, s: usize, block: &[u32; 7
     }
 }
 
+// As put_rows, with the stride as a constant where the words are neighbours.
+fn put(image: &mut [u32], rows: usize, at: usize, s: usize, block: &[u32; 72])
+    requires { ⌜ (rows ≤ 72) × Inside (length (now image)) rows at s ⌝ }
+    ensures { λ r. ⌜ now (image .exit) ≡ strideWrite (now (image .entry)) at s (now (block .entry)) rows ⌝ }
+{
+    if s == 1 {
+        put_rows(image, rows, at, 1, block);
+    } else {
+        put_rows(image, rows, at, s, block);
+    }
+}
+
 // The rows of the block whose first row is at `at`, into the first of the block.
 pub(crate) fn gather(image: &[u32], shape: Shape, at: usize, s: usize, block: &mut [u32; 72])
     requires { ⌜ Inside (length (now image)) (rows shape) at s ⌝ }
@@ -60,7 +72,7 @@ pub(crate) fn scatter(image: &mut [u32], shape: Shape, at: usize, s: usize, bloc
     ensures { λ r. ⌜ now (image .exit) ≡ strideWrite (now (image .entry)) at s (now (block .entry)) (rows shape) ⌝ }
 {
     match shape {
-        Shape::One => put_rows(image, 16, at, s, block),
-        Shape::Two => put_rows(image, 72, at, s, block),
+        Shape::One => put(image, 16, at, s, block),
+        Shape::Two => put(image, 72, at, s, block),
     }
 }
