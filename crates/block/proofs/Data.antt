@@ -34,7 +34,7 @@ data-count Two = refl
 length-blank : length blank ≡ 72
 length-blank = refl
 
-blank-zero : (j : ℕ) → getD blank j 0 ≡ 0
+pub blank-zero : (j : ℕ) → getD blank j 0 ≡ 0
 blank-zero j = ⊎-elim (λ l. getD-replicate 72 j 0 0 l) (λ l. List·getD-eq-default blank 0 l) (split-below j 72)
 
 module _ (shape : Shape) where

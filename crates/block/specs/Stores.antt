@@ -1,6 +1,6 @@
 -- A run of stores: the value `v k` at the place `f k`, for each k below n, in order.
-use Prim.Native.Nat.{ℕ, zero, suc, _<_}
-use mathlib.Core.Path.{_≡_, refl, _∙_}
+use Prim.Native.Nat.{ℕ, zero, suc, _≤_, _<_}
+use mathlib.Core.Path.{_≡_, refl, sym, ap, _∙_}
 use mathlib.Core.List.{List, [], _∷_}
 use mathlib.Core.Logic.{⊎-elim}
 use native.Mathlib.Nat.{eq-or-lt-of-le, le-of-suc-le-suc}
@@ -48,6 +48,16 @@ pub stores-same : (d : List ℕ) (f v : ℕ → ℕ) (n : ℕ) → ((k : ℕ) �
 unfolding stores
 stores-same d f v zero e = refl
 stores-same d f v (suc n) e = rw (stores-same d f v n (λ k h. e k (omega arith)), e n (omega arith)) (set-getD d (f n) 0)
+
+-- further stores that change nothing
+pub stores-more : (d : List ℕ) (f v : ℕ → ℕ) (n m : ℕ) → n ≤ m → ((k : ℕ) → n ≤ k → k < m → set (stores d f v k) (f k) (v k) ≡ stores d f v k)
+    → stores d f v n ≡ stores d f v m
+unfolding stores
+stores-more d f v n zero l same = let e : n ≡ 0 = omega arith in ap (stores d f v) e
+stores-more d f v n (suc m) l same =
+    ⊎-elim (λ e. ap (stores d f v) e)
+    (λ b. stores-more d f v n m (le-of-suc-le-suc b) (λ k h g. same k h (omega arith)) ∙ sym (same m (le-of-suc-le-suc b) (omega arith)))
+    (eq-or-lt-of-le l)
 
 -- what holds of every entry and of every value stored holds of every entry after
 set-all : (P : ℕ → Type 0) (l : List ℕ) (i v j : ℕ) → ((j : ℕ) → P (getD l j 0)) → P v → P (getD (set l i v) j 0)

@@ -1,32 +1,33 @@
 // The valid block for a list of data words, and the data words of a block.
 ghost use mathlib.Core.Path.{_≡_};
-ghost use Prim.Native.Nat.{ℕ, _-_, _<_, _^_};
+ghost use Prim.Native.Nat.{_-_, _≤_, _<_};
 ghost use lib.ListN.{length, getD, replicate};
 ghost use Rattle.block.specs.Stores.{stores};
 ghost use Rattle.block.specs.Block.{dataBlock, validBlock, dataInto};
-ghost use Rattle.block.specs.Inner.{Listed, copiedInto, xorAll, withChecks};
+ghost use Rattle.block.specs.Inner.{Listed, Rising, copiedInto, xorAll, withChecks};
 use super::Shape;
 use super::sums::lane_sums;
 use super::sums::rows_before;
 use super::tables::*;
 
-// Data word `k`, and 0 past the end of the list.
-fn word_at(list: &[u32], k: usize) -> u32
-    ensures { λ r. ⌜ r ≡ getD (now (list .entry)) k 0 ⌝ }
+// The smaller of two lengths.
+fn least(a: usize, b: usize) -> usize
+    ensures { λ r. ⌜ (r ≤ a) × (r ≤ b) × (r < a → r ≡ b) ⌝ }
 {
-    if k < list.len() { list[k] } else { 0 }
+    if a < b { a } else { b }
 }
 
 // The data words in the listed rows, in order, and zero elsewhere.
 fn place(rows: &[u8], list: &[u32]) -> [u32; 72]
-    requires { ⌜ Listed (now rows) ⌝ }
+    requires { ⌜ Listed (now rows) × Rising (now rows) ⌝ }
     ensures { λ r. ⌜ r ≡ stores (replicate 72 0) (λ k. getD (now (rows .entry)) k 0 - 1) (λ k. getD (now (list .entry)) k 0) (length (now (rows .entry))) ⌝ }
 {
+    let n = least(rows.len(), list.len());
     let mut block = [0u32; 72];
     let mut k = 0;
-    while k < rows.len() {
+    while k < n {
         let p = rows[k] as usize;
-        block[p - 1] = word_at(list, k);
+        block[p - 1] = list[k];
         k += 1;
     }
     block
@@ -86,12 +87,11 @@ fn copy_rows(rows: &[u8], block: &[u32; 72], buffer: &mut [u32])
     requires { ⌜ Listed (now rows) ⌝ }
     ensures { λ r. ⌜ now (buffer .exit) ≡ copiedInto (now (rows .entry)) (now (block .entry)) (now (buffer .entry)) ⌝ }
 {
+    let n = least(rows.len(), buffer.len());
     let mut k = 0;
-    while k < rows.len() {
-        if k < buffer.len() {
-            let p = rows[k] as usize;
-            buffer[k] = block[p - 1];
-        }
+    while k < n {
+        let p = rows[k] as usize;
+        buffer[k] = block[p - 1];
         k += 1;
     }
 }

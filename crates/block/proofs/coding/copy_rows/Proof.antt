@@ -1,54 +1,58 @@
--- `block::coding::copy_rows` meets its contract. The loop's invariant: the words passed are copied. Assumes nothing.
-use Prim.Native.Nat.{_≤_, _-_}
-use mathlib.Core.Path.{_≡_, refl, sym, ap, _∙_}
-use mathlib.Core.Logic.{⊎-elim}
+-- `block::coding::copy_rows` meets its contract. The loop's invariant: the words passed are copied; past the buffer's end nothing is stored. Assumes nothing.
+use Prim.Native.Nat.{ℕ, _≤_, _<_, _-_}
+use mathlib.Core.Path.{_≡_, refl, ap, _∙_}
 use native.Mathlib.Numerals.{add-one}
 use native.Mathlib.Omega.{arith}
 use lib.ListN.{length, getD, length-set}
 use lib.Seq.{set-out}
+use borrow.Author.Needs.{needs}
 use Rattle.block.specs.Words.{row}
-use Rattle.block.specs.Stores.{stores, length-stores}
+use Rattle.block.specs.Stores.{stores, length-stores, stores-more}
 use Rattle.block.specs.Inner.{copiedInto}
 use Rattle.block.proofs.Words.{row-at}
-use borrow.Author.Needs.{needs}
 use Rattle.block.proofs.coding.copy_rows.Statement.{statement}
 use Rattle.block.proofs.coding.copy_rows.Tie as tie
 
 abbrev Inv-loop : tie.InvT-loop
-Inv-loop rows block buffer₀ k₀ buffer k = (k ≤ length rows) × (buffer ≡ stores buffer₀ (λ j. j) (λ j. row (getD rows j 0) block) k) × (length buffer ≡ length buffer₀)
+Inv-loop rows block buffer₀ n k₀ buffer k =
+    (k ≤ n) × (n ≤ length rows) × (n ≤ length buffer₀) × (n < length rows → n ≡ length buffer₀)
+    × (buffer ≡ stores buffer₀ (λ j. j) (λ j. row (getD rows j 0) block) k) × (length buffer ≡ length buffer₀)
 
 abbrev μ-loop : tie.MeasureT-loop
-μ-loop rows block buffer₀ k₀ buffer k = length rows - k
+μ-loop rows block buffer₀ n k₀ buffer k = n - k
 
 -- the row is there
 there : (c : tie.In-loop Inv-loop μ-loop)
-    → (1 ≤ getD (c .before .before .args .rows .now) (c .before .loop .k) 0) × (getD (c .before .before .args .rows .now) (c .before .loop .k) 0 ≤ 72)
-there c = c .before .before .pre (c .before .loop .k) (c .loop-test .taken)
+    → (1 ≤ getD (c .before .before .before .before .before .args .rows .now) (c .before .loop .k) 0) × (getD (c .before .before .before .before .before .args .rows .now) (c .before .loop .k) 0 ≤ 72)
+there c = c .before .before .before .before .before .pre (c .before .loop .k) (omega (arith, c .loop-test .taken, c .before .loop .inv .1))
+
+least-requires : tie.Need-least-requires Inv-loop μ-loop
+least-requires c κs = search needs
 
 loop-holds : tie.Need-loop-holds Inv-loop μ-loop
 unfolding stores
-loop-holds c = (omega arith, refl, refl)
+loop-holds c = let l = c .least .ensures in (omega arith, l .0, l .1, l .2, refl, refl)
 
 shared-slice-read-p : tie.Need-shared-slice-read-p Inv-loop μ-loop
-shared-slice-read-p c = search needs
+shared-slice-read-p c = omega (arith, c .before .before .loop .inv .1)
 
 cast-p : tie.Need-cast-p Inv-loop μ-loop
-cast-p c = omega (arith, there (c .before .before))
+cast-p c = omega (arith, there (c .before))
 
 sub-buffer : tie.Need-sub-buffer Inv-loop μ-loop
-sub-buffer c = there (c .before .before) .0
+sub-buffer c = there (c .before) .0
 
 mul-buffer : tie.Need-mul-buffer Inv-loop μ-loop
-mul-buffer c = omega (arith, there (c .before .before))
+mul-buffer c = omega (arith, there (c .before))
 
 element-copy-out-buffer : tie.Need-element-copy-out-buffer Inv-loop μ-loop
-element-copy-out-buffer c = omega (arith, there (c .before .before))
+element-copy-out-buffer c = omega (arith, there (c .before))
 
 mul-buffer-2 : tie.Need-mul-buffer-2 Inv-loop μ-loop
 mul-buffer-2 c = search needs
 
 slice-write-buffer : tie.Need-slice-write-buffer Inv-loop μ-loop
-slice-write-buffer c = search needs
+slice-write-buffer c = let inv = c .before .before .before .loop .inv in omega (arith, inv .2, inv .5)
 
 add-k : tie.Need-add-k Inv-loop μ-loop
 add-k c = search needs
@@ -59,24 +63,32 @@ loop-less c = search needs
 loop-again : tie.Need-loop-again Inv-loop μ-loop
 unfolding stores
 loop-again c =
-    let start = c .before .before .before in
-    let k = c .before .before .loop .k in
-    let inv = c .before .before .loop .inv in
-    let p = there (c .before) .0 in
-    rw add-one
-    (⊎-elim
-    (λ w. (omega arith, rw (w .3, row-at (getD (start .args .rows .now) k 0) (start .args .block .now) p, inv .1), rw (w .3) (simp length-set (inv .2))))
-    (λ w. (omega arith, rw (w .1, inv .1) (sym (set-out (stores (start .args .buffer .now) (λ j. j) (λ j. row (getD (start .args .rows .now) j 0) (start .args .block .now)) k) k _ (rw length-stores (omega (arith, inv .2, w .0 .left))))), rw (w .1) (inv .2)))
-    (c .if1 .came))
+    let start = c .before .before .before .before .before .before .before in
+    let k = c .before .before .before .loop .k in
+    let inv = c .before .before .before .loop .inv in (
+      omega arith,
+      inv .1,
+      inv .2,
+      inv .3,
+      rw (add-one, row-at (getD (start .args .rows .now) k 0) (start .args .block .now) (there (c .before .before) .0), inv .4),
+      simp length-set (inv .5),
+    )
 
 same-length : tie.Need-same-length Inv-loop μ-loop
-same-length c = c .before .loop .inv .2
+same-length c = c .before .loop .inv .5
 
 returns : tie.Need-returns Inv-loop μ-loop
 unfolding copiedInto
 returns c =
-    let e : c .before .loop .k ≡ length (c .before .before .args .rows .now) = omega arith in
-    c .before .loop .inv .1 ∙ ap (stores (c .before .before .args .buffer .now) (λ j. j) (λ j. row (getD (c .before .before .args .rows .now) j 0) (c .before .before .args .block .now))) e
+    let start = c .before .before .before .before .before in
+    let inv = c .before .loop .inv in
+    let buffer = start .args .buffer .now in
+    let v : ℕ → ℕ = λ j. row (getD (start .args .rows .now) j 0) (start .args .block .now) in
+    let e : c .before .loop .k ≡ c .before .before .least .result = omega arith in
+    inv .4
+    ∙ ap (stores buffer (λ j. j) v) e
+    ∙ stores-more buffer (λ j. j) v (c .before .before .least .result) (length (start .args .rows .now)) (inv .1)
+    (λ k h g. set-out (stores buffer (λ j. j) v k) k (v k) (rw length-stores (omega (arith, inv .3 (omega arith)))))
 
 pub copy-rows-spec : {M : Type 1} → statement M
 copy-rows-spec =
@@ -84,6 +96,7 @@ copy-rows-spec =
     (tie.spec
     Inv-loop
     μ-loop
+    least-requires
     loop-holds
     shared-slice-read-p
     cast-p

@@ -1,44 +1,56 @@
--- `block::coding::place` meets its contract. The loop's invariant: the words passed are placed. Assumes nothing.
-use Prim.Native.Nat.{_≤_, _-_}
-use mathlib.Core.Path.{_≡_, refl, ap, _∙_}
+-- `block::coding::place` meets its contract. The loop's invariant: the words passed are placed; those that are missing are zero already. Assumes nothing.
+use Prim.Native.Nat.{ℕ, _≤_, _<_, _-_}
+use mathlib.Core.List.{List}
+use mathlib.Core.Path.{_≡_, refl, sym, ap, _∙_}
 use native.Mathlib.Numerals.{add-one}
 use native.Mathlib.Omega.{arith}
-use lib.ListN.{length, getD, replicate}
-use Rattle.block.specs.Stores.{stores}
+use lib.ListN.{length, getD, set, replicate, List·getD-eq-default}
+use lib.Seq.{set-getD}
 use borrow.Author.Needs.{needs}
+use Rattle.block.specs.Stores.{stores, stores-miss, stores-more}
+use Rattle.block.specs.Inner.{Listed, Rising}
+use Rattle.block.proofs.Data.{blank-zero}
 use Rattle.block.proofs.coding.place.Statement.{statement}
 use Rattle.block.proofs.coding.place.Tie as tie
 
 abbrev Inv-loop : tie.InvT-loop
-Inv-loop rows list block₀ k₀ block k = (k ≤ length rows) × (block ≡ stores (replicate 72 0) (λ j. getD rows j 0 - 1) (λ j. getD list j 0) k)
+Inv-loop rows list n block₀ k₀ block k =
+    (k ≤ n) × (n ≤ length rows) × (n ≤ length list) × (n < length rows → n ≡ length list)
+    × (block ≡ stores (replicate 72 0) (λ j. getD rows j 0 - 1) (λ j. getD list j 0) k)
 
 abbrev μ-loop : tie.MeasureT-loop
-μ-loop rows list block₀ k₀ block k = length rows - k
+μ-loop rows list n block₀ k₀ block k = n - k
 
 -- the row is there
 there : (c : tie.In-loop Inv-loop μ-loop)
-    → (1 ≤ getD (c .before .before .before .before .args .rows .now) (c .before .loop .k) 0)
-    × (getD (c .before .before .before .before .args .rows .now) (c .before .loop .k) 0 ≤ 72)
-there c = c .before .before .before .before .pre (c .before .loop .k) (c .loop-test .taken)
+    → (1 ≤ getD (c .before .before .before .before .before .args .rows .now) (c .before .loop .k) 0)
+    × (getD (c .before .before .before .before .before .args .rows .now) (c .before .loop .k) 0 ≤ 72)
+there c = c .before .before .before .before .before .pre .0 (c .before .loop .k) (omega (arith, c .loop-test .taken, c .before .loop .inv .1))
+
+least-requires : tie.Need-least-requires Inv-loop μ-loop
+least-requires c κs = search needs
 
 loop-holds : tie.Need-loop-holds Inv-loop μ-loop
 unfolding stores
-loop-holds c = (omega arith, refl)
+loop-holds c = let l = c .least .ensures in (omega arith, l .0, l .1, l .2, refl)
 
 shared-slice-read-p : tie.Need-shared-slice-read-p Inv-loop μ-loop
-shared-slice-read-p c = search needs
+shared-slice-read-p c = omega (arith, c .before .before .loop .inv .1)
 
 cast-p : tie.Need-cast-p Inv-loop μ-loop
 cast-p c = omega (arith, there (c .before))
 
-word-at-requires : tie.Need-word-at-requires Inv-loop μ-loop
-word-at-requires c κs = search needs
+mul-block : tie.Need-mul-block Inv-loop μ-loop
+mul-block c = omega (arith, c .before .before .loop .inv .2)
+
+shared-slice-read-block : tie.Need-shared-slice-read-block Inv-loop μ-loop
+shared-slice-read-block c = omega (arith, c .before .before .before .loop .inv .2)
 
 sub-block : tie.Need-sub-block Inv-loop μ-loop
 sub-block c = there (c .before .before) .0
 
-mul-block : tie.Need-mul-block Inv-loop μ-loop
-mul-block c = omega (arith, there (c .before .before))
+mul-block-2 : tie.Need-mul-block-2 Inv-loop μ-loop
+mul-block-2 c = omega (arith, there (c .before .before))
 
 array-write-block : tie.Need-array-write-block Inv-loop μ-loop
 array-write-block c = omega (arith, there (c .before .before))
@@ -51,13 +63,29 @@ loop-less c = search needs
 
 loop-again : tie.Need-loop-again Inv-loop μ-loop
 unfolding stores
-loop-again c = (omega arith, rw (add-one, c .word-at .ensures, c .before .before .before .loop .inv .1))
+loop-again c = let inv = c .before .before .before .loop .inv in (omega arith, inv .1, inv .2, inv .3, rw (add-one, inv .4))
+
+-- words that are missing are zero, as their rows are already
+missing : (rows list : List ℕ) (n : ℕ) → Listed rows → Rising rows → n ≤ length rows → (n < length rows → n ≡ length list)
+    → stores (replicate 72 0) (λ j. getD rows j 0 - 1) (λ j. getD list j 0) n ≡ stores (replicate 72 0) (λ j. getD rows j 0 - 1) (λ j. getD list j 0) (length rows)
+missing rows list n listed rising fits all =
+    stores-more (replicate 72 0) (λ j. getD rows j 0 - 1) (λ j. getD list j 0) n (length rows) fits
+    (λ k h g.
+    let f : ℕ → ℕ = λ j. getD rows j 0 - 1 in
+    let v : ℕ → ℕ = λ j. getD list j 0 in
+    let none : v k ≡ 0 = List·getD-eq-default list 0 {n = k} (omega (arith, all (omega arith))) in
+    let free : getD (stores (replicate 72 0) f v k) (f k) 0 ≡ 0
+    = stores-miss (replicate 72 0) f v (f k) k (λ j l e. omega (arith, rising j k l g, listed j (omega arith) .0)) ∙ blank-zero (f k) in
+    ap (set (stores (replicate 72 0) f v k) (f k)) (none ∙ sym free) ∙ set-getD (stores (replicate 72 0) f v k) (f k) 0)
 
 returns : tie.Need-returns Inv-loop μ-loop
 returns c =
-    let start = c .before .before .before .before in
-    let e : c .before .loop .k ≡ length (start .args .rows .now) = omega arith in
-    c .before .loop .inv .1 ∙ ap (stores (replicate 72 0) (λ j. getD (start .args .rows .now) j 0 - 1) (λ j. getD (start .args .list .now) j 0)) e
+    let start = c .before .before .before .before .before in
+    let inv = c .before .loop .inv in
+    let e : c .before .loop .k ≡ c .before .before .least .result = omega arith in
+    inv .4
+    ∙ ap (stores (replicate 72 0) (λ j. getD (start .args .rows .now) j 0 - 1) (λ j. getD (start .args .list .now) j 0)) e
+    ∙ missing (start .args .rows .now) (start .args .list .now) _ (start .pre .0) (start .pre .1) (inv .1) (inv .3)
 
 pub place-spec : {M : Type 1} → statement M
 place-spec =
@@ -65,12 +93,14 @@ place-spec =
     (tie.spec
     Inv-loop
     μ-loop
+    least-requires
     loop-holds
     shared-slice-read-p
     cast-p
-    word-at-requires
-    sub-block
     mul-block
+    shared-slice-read-block
+    sub-block
+    mul-block-2
     array-write-block
     add-k
     loop-less
