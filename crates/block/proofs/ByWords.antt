@@ -1,7 +1,7 @@
 -- The definitions computed by words, 32 lanes at once, so that a worked example costs little to compute. Assumes nothing.
 use Prim.Native.Nat.{ℕ, zero, suc, _+_, _^_, _≤_, _<_}
-use mathlib.Core.Bool.{Bool, true, false, _&&_, false≢true}
-use mathlib.Core.Path.{_≡_, refl, sym, ap, _∙_}
+use mathlib.Core.Bool.{Bool, true, _&&_}
+use mathlib.Core.Path.{_≡_, sym, ap, _∙_}
 use mathlib.Core.List.{List, [], _∷_}
 use native.Mathlib.Omega.{arith}
 use lib.Bits.{bitXor, bitOr, or-lt}
@@ -17,6 +17,7 @@ use Rattle.block.specs.Words.{total}
 use Rattle.block.specs.Block.{dataBlock, validBlock, mendedBlock}
 use Rattle.block.specs.Verdict.{verdictOf}
 use Rattle.block.specs.Inner.{sumsOf, anyOf, lostLanes, flippedIn, xorAll, withChecks}
+use Rattle.block.proofs.Words.{both}
 use Rattle.block.proofs.Flips.{getD-listOf}
 use Rattle.block.proofs.Lanes.{ones-total}
 use Rattle.block.proofs.Judged.{rows-fit, lost-lt, lost-verdict, lost-block, mended-verdict, mended-block}
@@ -26,10 +27,6 @@ use Rattle.block.proofs.Encoding.{xor-over-lt, built}
 unfoldable pub fit? : List ℕ → Bool
 fit? [] = true
 fit? (w ∷ list) = ltb w (2 ^ 32) && fit? list
-
-both : (a b : Bool) → a && b ≡ true → (a ≡ true) × (b ≡ true)
-both true b e = (refl, e)
-both false b e = absurd (false≢true e)
 
 pub fit-each : (list : List ℕ) → fit? list ≡ true → (k : ℕ) → getD list k 0 < 2 ^ 32
 unfolding fit?

@@ -1,6 +1,6 @@
 -- What a look at a block finds: its sums and parities, and nothing exactly if the block is clean. Assumes nothing.
 use Prim.Native.Nat.{ℕ, zero, suc, _+_, _^_, _≤_, _<_}
-use mathlib.Core.Bool.{Bool, true, false, _&&_, true≢false}
+use mathlib.Core.Bool.{Bool, true, false, true≢false}
 use mathlib.Core.Path.{_≡_, refl, sym, ap, ap₂, _∙_}
 use mathlib.Core.List.{List, [], _∷_}
 use mathlib.Core.Logic.{⊎-elim}
@@ -21,6 +21,7 @@ use Rattle.block.specs.Shape.{before, rows}
 use Rattle.block.specs.Words.{listOf}
 use Rattle.block.specs.Verdict.{clean?, verdictOf, validFrom}
 use Rattle.block.specs.Inner.{sumsOf, sumWords, anyOf, lostLanes}
+use Rattle.block.proofs.Words.{both}
 use Rattle.block.proofs.Lanes.{xor-parts}
 use Rattle.block.proofs.Judged.{clean-verdict, lost-verdict, mended-verdict}
 
@@ -29,7 +30,7 @@ use Rattle.block.proofs.Judged.{clean-verdict, lost-verdict, mended-ver
 or-more : (a b : ℕ) → (a ≤ bitOr a b) × (b ≤ bitOr a b)
 or-more a b = let e = or-add-and a b in (omega (arith, and-le-r a b), omega (arith, and-le-l a b))
 
-pub any-more : (k : ℕ) (digits : List ℕ) (j : ℕ) → j < k → getD digits j 0 ≤ anyOf k digits
+any-more : (k : ℕ) (digits : List ℕ) (j : ℕ) → j < k → getD digits j 0 ≤ anyOf k digits
 unfolding anyOf
 any-more zero digits j h = absurd (omega arith)
 any-more (suc k) digits j h =
@@ -114,10 +115,6 @@ module _ (shape : Shape) (block : List ℕ) where
 -- ---- what it tells that a valid block is there
 
 module _ (shape : Shape) (at : ℕ) (words : List ℕ) (there : validFrom shape at words ≡ true) where
-  both : (a b : Bool) → a && b ≡ true → (a ≡ true) × (b ≡ true)
-  both true b e = (refl, e)
-  both false b e = absurd (true≢false (sym e))
-
   halves : (leb (at + rows shape) (length words) ≡ true) × (clean? (verdictOf shape (drop at words)) ≡ true)
   unfolding validFrom
   halves = both _ _ there

@@ -1,7 +1,7 @@
 -- Lists by their entries, numbers by their bits, and the exclusive or over a list of rows. Assumes nothing.
 use Prim.Native.Nat.{ℕ, zero, suc, _+_, _-_, _/_, _%_, _^_, _≤_, _<_}
-use mathlib.Core.Bool.{Bool, true, false, cond}
-use mathlib.Core.Path.{_≡_, sym, ap, ap₂, _∙_}
+use mathlib.Core.Bool.{Bool, true, false, cond, _&&_, false≢true}
+use mathlib.Core.Path.{_≡_, refl, sym, ap, ap₂, _∙_}
 use mathlib.Core.List.{List, [], _∷_, _++_}
 use mathlib.Core.Logic.{⊎-elim}
 use native.Mathlib.Nat.{pow-suc, eq-or-lt-of-le, le-of-suc-le-suc, le-refl, add-zero, one-mul}
@@ -77,3 +77,9 @@ digit-one i w e = bit-shift i w ∙ ap set? e
 
 pub digit-zero : (i w : ℕ) → (w / 2 ^ i % 2 ≡ 1 → ⊥) → bit i w ≡ false
 digit-zero i w ne = let z : w / 2 ^ i % 2 ≡ 0 = omega arith in bit-shift i w ∙ ap set? z
+
+-- ---- two tests that hold together
+
+pub both : (a b : Bool) → a && b ≡ true → (a ≡ true) × (b ≡ true)
+both true b e = (refl, e)
+both false b e = absurd (false≢true e)

@@ -14,17 +14,13 @@ use Rattle.block.specs.Shape.{before, rows}
 use Rattle.block.specs.Words.{row, number, word, listOf}
 use Rattle.block.specs.Stores.{stores}
 
--- every entry of a list is the number of a row
-abbrev pub Listed : List ℕ → Type 0
-Listed list = (k : ℕ) → k < length list → (1 ≤ getD list k 0) × (getD list k 0 ≤ 72)
+-- every entry of a list is the number of one of n rows
+abbrev pub Listed : ℕ → List ℕ → Type 0
+Listed n list = (k : ℕ) → k < length list → (1 ≤ getD list k 0) × (getD list k 0 ≤ n)
 
 -- a list goes from row to a later row
 abbrev pub Rising : List ℕ → Type 0
 Rising list = (j k : ℕ) → j < k → k < length list → getD list j 0 < getD list k 0
-
--- every entry of a list is the number of a row of the block at `at`, and its word is among the first len
-abbrev pub ListedFrom : ℕ → ℕ → List ℕ → Type 0
-ListedFrom at len list = (k : ℕ) → k < length list → (1 ≤ getD list k 0) × (at + getD list k 0 ≤ len)
 
 -- the exclusive or of the words of the listed rows
 unfoldable pub xorOver : List ℕ → List ℕ → ℕ

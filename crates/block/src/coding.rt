@@ -19,7 +19,7 @@ fn least(a: usize, b: usize) -> usize
 
 // The data words in the listed rows, in order, and zero elsewhere.
 fn place(rows: &[u8], list: &[u32]) -> [u32; 72]
-    requires { ⌜ Listed (now rows) × Rising (now rows) ⌝ }
+    requires { ⌜ Listed 72 (now rows) × Rising (now rows) ⌝ }
     ensures { λ r. ⌜ r ≡ stores (replicate 72 0) (λ k. getD (now (rows .entry)) k 0 - 1) (λ k. getD (now (list .entry)) k 0) (length (now (rows .entry))) ⌝ }
 {
     let n = least(rows.len(), list.len());
@@ -84,7 +84,7 @@ pub fn encode(shape: Shape, list: &[u32]) -> [u32; 72]
 
 // Copies the words of the listed rows, in order, as many as the buffer has room for.
 fn copy_rows(rows: &[u8], block: &[u32; 72], buffer: &mut [u32])
-    requires { ⌜ Listed (now rows) ⌝ }
+    requires { ⌜ Listed 72 (now rows) ⌝ }
     ensures { λ r. ⌜ now (buffer .exit) ≡ copiedInto (now (rows .entry)) (now (block .entry)) (now (buffer .entry)) ⌝ }
 {
     let n = least(rows.len(), buffer.len());

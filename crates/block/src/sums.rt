@@ -1,10 +1,10 @@
 // The sums and the parities of 32 lanes at once, by the lists of covered rows.
 ghost use mathlib.Core.Path.{_≡_};
-ghost use Prim.Native.Nat.{_+_, _≤_};
+ghost use Prim.Native.Nat.{_+_, _-_, _≤_};
 ghost use lib.ListN.{length, drop, replicate};
 ghost use Rattle.block.specs.Shape.{before};
 ghost use Rattle.block.specs.Verdict.{validFrom};
-ghost use Rattle.block.specs.Inner.{xorOver, ListedFrom, sumsOf, sumWords, anyOf, Looked};
+ghost use Rattle.block.specs.Inner.{xorOver, Listed, sumsOf, sumWords, anyOf, Looked};
 use super::Shape;
 use super::tables::*;
 
@@ -26,7 +26,7 @@ pub(crate) fn rows_before(shape: Shape) -> usize
 
 // The exclusive or of the words of the listed rows, of the block whose first row is at `at`.
 fn over(words: &[u32], at: usize, rows: &[u8]) -> u32
-    requires { ⌜ ListedFrom at (length (now words)) (now rows) ⌝ }
+    requires { ⌜ Listed (length (now words) - at) (now rows) ⌝ }
     ensures { λ r. ⌜ r ≡ xorOver (now (rows .entry)) (drop at (now (words .entry))) ⌝ }
 {
     let mut sum: u32 = 0;
@@ -118,6 +118,7 @@ pub fn valid(shape: Shape, words: &[u32], at: usize) -> bool
     look(shape, &*words, at, &mut sums) == 0
 }
 
+// The sums and the parities of a gathered block.
 pub(crate) fn lane_sums(shape: Shape, block: &[u32]) -> Sums
     requires { ⌜ length (now block) ≡ 72 ⌝ }
     ensures { λ r. ⌜ r ≡ sumsOf shape (now (block .entry)) ⌝ }

@@ -19,7 +19,7 @@ slice-aggregate-copy-rows c = search needs
 
 copy-rows-requires : tie.Need-copy-rows-requires
 unfolding rowsWhere power?
-copy-rows-requires c κs = rows-listed (λ p. not (power? 4 p)) 15 (omega arith)
+copy-rows-requires c κs = rows-listed (λ p. not (power? 4 p)) 15 72 (omega arith)
 
 enum-told-2 : tie.Need-enum-told-2
 enum-told-2 c = search needs
@@ -29,7 +29,7 @@ slice-aggregate-copy-rows-2 c = search needs
 
 copy-rows-requires-2 : tie.Need-copy-rows-requires-2
 unfolding rowsWhere power?
-copy-rows-requires-2 c κs = rows-listed (λ p. not (power? 7 p)) 71 (omega arith)
+copy-rows-requires-2 c κs = rows-listed (λ p. not (power? 7 p)) 71 72 (omega arith)
 
 same-length : tie.Need-same-length
 same-length c = search needs

@@ -66,7 +66,7 @@ unfolding stores
 loop-again c = let inv = c .before .before .before .loop .inv in (omega arith, inv .1, inv .2, inv .3, rw (add-one, inv .4))
 
 -- words that are missing are zero, as their rows are already
-missing : (rows list : List ℕ) (n : ℕ) → Listed rows → Rising rows → n ≤ length rows → (n < length rows → n ≡ length list)
+missing : (rows list : List ℕ) (n : ℕ) → Listed 72 rows → Rising rows → n ≤ length rows → (n < length rows → n ≡ length list)
     → stores (replicate 72 0) (λ j. getD rows j 0 - 1) (λ j. getD list j 0) n ≡ stores (replicate 72 0) (λ j. getD rows j 0 - 1) (λ j. getD list j 0) (length rows)
 missing rows list n listed rising fits all =
     stores-more (replicate 72 0) (λ j. getD rows j 0 - 1) (λ j. getD list j 0) n (length rows) fits

@@ -18,7 +18,7 @@ slice-aggregate-place c = search needs
 
 place-requires : tie.Need-place-requires
 unfolding rowsWhere power?
-place-requires c κs = (rows-listed (λ p. not (power? 4 p)) 15 (omega arith), rows-rising (λ p. not (power? 4 p)) 15)
+place-requires c κs = (rows-listed (λ p. not (power? 4 p)) 15 72 (omega arith), rows-rising (λ p. not (power? 4 p)) 15)
 
 enum-told-2 : tie.Need-enum-told-2
 enum-told-2 c = search needs
@@ -28,7 +28,7 @@ slice-aggregate-place-2 c = search needs
 
 place-requires-2 : tie.Need-place-requires-2
 unfolding rowsWhere power?
-place-requires-2 c κs = (rows-listed (λ p. not (power? 7 p)) 71 (omega arith), rows-rising (λ p. not (power? 7 p)) 71)
+place-requires-2 c κs = (rows-listed (λ p. not (power? 7 p)) 71 72 (omega arith), rows-rising (λ p. not (power? 7 p)) 71)
 
 returns : tie.Need-returns
 unfolding dataBlock rowsWhere power?

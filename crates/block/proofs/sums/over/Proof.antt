@@ -22,7 +22,7 @@ abbrev μ-loop : tie.MeasureT-loop
 -- the row that is read is there
 there : (c : tie.In-loop Inv-loop μ-loop)
     → (1 ≤ getD (c .before .before .args .rows .now) (c .before .loop .k) 0)
-    × (c .before .before .args .at + getD (c .before .before .args .rows .now) (c .before .loop .k) 0 ≤ length (c .before .before .args .words .now))
+    × (getD (c .before .before .args .rows .now) (c .before .loop .k) 0 ≤ length (c .before .before .args .words .now) - c .before .before .args .at)
 there c = c .before .before .pre (c .before .loop .k) (c .loop-test .taken)
 
 -- where the word of a row stands

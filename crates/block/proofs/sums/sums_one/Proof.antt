@@ -12,7 +12,7 @@ use Rattle.lane.specs.Rows.{rowsWhere, covered}
 use Rattle.block.specs.declared.Shape.the-variants.{One}
 use Rattle.block.specs.Inner.{xorOver, evenRows, sumWords, anyOf}
 use Rattle.block.proofs.Lanes.{xor-parts}
-use Rattle.block.proofs.Listed.{rows-listed-from}
+use Rattle.block.proofs.Listed.{rows-listed}
 use Rattle.block.proofs.Stored.{eight, five-stored, same-eight, some-of-five}
 use Rattle.block.proofs.sums.sums_one.Statement.{statement}
 use Rattle.block.proofs.sums.sums_one.Tie as tie
@@ -22,14 +22,14 @@ slice-aggregate-over c = search needs
 
 over-requires : tie.Need-over-requires
 unfolding rowsWhere bit
-over-requires c κs = rows-listed-from (λ p. bit 0 p && bit 1 p) 15 _ _ (omega arith)
+over-requires c κs = rows-listed (λ p. bit 0 p && bit 1 p) 15 _ (omega arith)
 
 slice-aggregate-over-2 : tie.Need-slice-aggregate-over-2
 slice-aggregate-over-2 c = search needs
 
 over-requires-2 : tie.Need-over-requires-2
 unfolding rowsWhere bit
-over-requires-2 c κs = rows-listed-from (λ p. bit 0 p && not (bit 1 p)) 15 _ _ (omega arith)
+over-requires-2 c κs = rows-listed (λ p. bit 0 p && not (bit 1 p)) 15 _ (omega arith)
 
 slice-write-sums : tie.Need-slice-write-sums
 slice-write-sums c = omega (arith, eight _ (c .before .before .before .before .before .before .pre .1))
@@ -39,7 +39,7 @@ slice-aggregate-over-3 c = search needs
 
 over-requires-3 : tie.Need-over-requires-3
 unfolding rowsWhere bit
-over-requires-3 c κs = rows-listed-from (λ p. bit 1 p && not (bit 0 p)) 15 _ _ (omega arith)
+over-requires-3 c κs = rows-listed (λ p. bit 1 p && not (bit 0 p)) 15 _ (omega arith)
 
 slice-write-sums-2 : tie.Need-slice-write-sums-2
 slice-write-sums-2 c = simp length-set (omega (arith, eight _ (c .before .before .before .before .before .before .before .before .pre .1)))
@@ -49,7 +49,7 @@ slice-aggregate-over-4 c = search needs
 
 over-requires-4 : tie.Need-over-requires-4
 unfolding rowsWhere bit
-over-requires-4 c κs = rows-listed-from (bit 2) 15 _ _ (omega arith)
+over-requires-4 c κs = rows-listed (bit 2) 15 _ (omega arith)
 
 slice-write-sums-3 : tie.Need-slice-write-sums-3
 slice-write-sums-3 c = simp length-set (omega (arith, eight _ (c .before .before .before .before .before .before .before .before .before .before .pre .1)))
@@ -59,7 +59,7 @@ slice-aggregate-over-5 c = search needs
 
 over-requires-5 : tie.Need-over-requires-5
 unfolding rowsWhere bit
-over-requires-5 c κs = rows-listed-from (bit 3) 15 _ _ (omega arith)
+over-requires-5 c κs = rows-listed (bit 3) 15 _ (omega arith)
 
 slice-write-sums-4 : tie.Need-slice-write-sums-4
 slice-write-sums-4 c = simp length-set (omega (arith, eight _ (c .before .before .before .before .before .before .before .before .before .before .before .before .pre .1)))
@@ -69,7 +69,7 @@ slice-aggregate-over-6 c = search needs
 
 over-requires-6 : tie.Need-over-requires-6
 unfolding rowsWhere bit
-over-requires-6 c κs = rows-listed-from (λ p. not (bit 0 p) && not (bit 1 p)) 16 _ _ (omega arith)
+over-requires-6 c κs = rows-listed (λ p. not (bit 0 p) && not (bit 1 p)) 16 _ (omega arith)
 
 slice-write-sums-5 : tie.Need-slice-write-sums-5
 slice-write-sums-5 c = simp length-set (omega (arith, eight _ (c .before .before .before .before .before .before .before .before .before .before .before .before .before .before .pre .1)))

@@ -12,7 +12,7 @@ use Rattle.lane.specs.Rows.{rowsWhere, covered}
 use Rattle.block.specs.declared.Shape.the-variants.{Two}
 use Rattle.block.specs.Inner.{xorOver, evenRows, sumWords, anyOf}
 use Rattle.block.proofs.Lanes.{xor-parts}
-use Rattle.block.proofs.Listed.{rows-listed-from}
+use Rattle.block.proofs.Listed.{rows-listed}
 use Rattle.block.proofs.Stored.{eight, eight-stored, same-eight, some-of-eight}
 use Rattle.block.proofs.sums.sums_two.Statement.{statement}
 use Rattle.block.proofs.sums.sums_two.Tie as tie
@@ -22,14 +22,14 @@ slice-aggregate-over c = search needs
 
 over-requires : tie.Need-over-requires
 unfolding rowsWhere bit
-over-requires c κs = rows-listed-from (λ p. bit 0 p && bit 1 p) 71 _ _ (omega arith)
+over-requires c κs = rows-listed (λ p. bit 0 p && bit 1 p) 71 _ (omega arith)
 
 slice-aggregate-over-2 : tie.Need-slice-aggregate-over-2
 slice-aggregate-over-2 c = search needs
 
 over-requires-2 : tie.Need-over-requires-2
 unfolding rowsWhere bit
-over-requires-2 c κs = rows-listed-from (λ p. bit 0 p && not (bit 1 p)) 71 _ _ (omega arith)
+over-requires-2 c κs = rows-listed (λ p. bit 0 p && not (bit 1 p)) 71 _ (omega arith)
 
 slice-write-sums : tie.Need-slice-write-sums
 slice-write-sums c = omega (arith, eight _ (c .before .before .before .before .before .before .pre .1))
@@ -39,7 +39,7 @@ slice-aggregate-over-3 c = search needs
 
 over-requires-3 : tie.Need-over-requires-3
 unfolding rowsWhere bit
-over-requires-3 c κs = rows-listed-from (λ p. bit 1 p && not (bit 0 p)) 71 _ _ (omega arith)
+over-requires-3 c κs = rows-listed (λ p. bit 1 p && not (bit 0 p)) 71 _ (omega arith)
 
 slice-write-sums-2 : tie.Need-slice-write-sums-2
 slice-write-sums-2 c = simp length-set (omega (arith, eight _ (c .before .before .before .before .before .before .before .before .pre .1)))
@@ -49,7 +49,7 @@ slice-aggregate-over-4 c = search needs
 
 over-requires-4 : tie.Need-over-requires-4
 unfolding rowsWhere bit
-over-requires-4 c κs = rows-listed-from (bit 2) 71 _ _ (omega arith)
+over-requires-4 c κs = rows-listed (bit 2) 71 _ (omega arith)
 
 slice-write-sums-3 : tie.Need-slice-write-sums-3
 slice-write-sums-3 c = simp length-set (omega (arith, eight _ (c .before .before .before .before .before .before .before .before .before .before .pre .1)))
@@ -59,7 +59,7 @@ slice-aggregate-over-5 c = search needs
 
 over-requires-5 : tie.Need-over-requires-5
 unfolding rowsWhere bit
-over-requires-5 c κs = rows-listed-from (bit 3) 71 _ _ (omega arith)
+over-requires-5 c κs = rows-listed (bit 3) 71 _ (omega arith)
 
 slice-write-sums-4 : tie.Need-slice-write-sums-4
 slice-write-sums-4 c = simp length-set (omega (arith, eight _ (c .before .before .before .before .before .before .before .before .before .before .before .before .pre .1)))
@@ -69,7 +69,7 @@ slice-aggregate-over-6 c = search needs
 
 over-requires-6 : tie.Need-over-requires-6
 unfolding rowsWhere bit
-over-requires-6 c κs = rows-listed-from (bit 4) 71 _ _ (omega arith)
+over-requires-6 c κs = rows-listed (bit 4) 71 _ (omega arith)
 
 slice-write-sums-5 : tie.Need-slice-write-sums-5
 slice-write-sums-5 c = simp length-set (omega (arith, eight _ (c .before .before .before .before .before .before .before .before .before .before .before .before .before .before .pre .1)))
@@ -79,7 +79,7 @@ slice-aggregate-over-7 c = search needs
 
 over-requires-7 : tie.Need-over-requires-7
 unfolding rowsWhere bit
-over-requires-7 c κs = rows-listed-from (bit 5) 71 _ _ (omega arith)
+over-requires-7 c κs = rows-listed (bit 5) 71 _ (omega arith)
 
 slice-write-sums-6 : tie.Need-slice-write-sums-6
 slice-write-sums-6 c = simp length-set (omega (arith, eight _ (c .before .before .before .before .before .before .before .before .before .before .before .before .before .before .before .before .pre .1)))
@@ -89,7 +89,7 @@ slice-aggregate-over-8 c = search needs
 
 over-requires-8 : tie.Need-over-requires-8
 unfolding rowsWhere bit
-over-requires-8 c κs = rows-listed-from (bit 6) 71 _ _ (omega arith)
+over-requires-8 c κs = rows-listed (bit 6) 71 _ (omega arith)
 
 slice-write-sums-7 : tie.Need-slice-write-sums-7
 slice-write-sums-7 c = simp length-set (omega (arith, eight _ (c .before .before .before .before .before .before .before .before .before .before .before .before .before .before .before .before .before .before .pre .1)))
@@ -99,7 +99,7 @@ slice-aggregate-over-9 c = search needs
 
 over-requires-9 : tie.Need-over-requires-9
 unfolding rowsWhere bit
-over-requires-9 c κs = rows-listed-from (λ p. not (bit 0 p) && not (bit 1 p)) 72 _ _ (omega arith)
+over-requires-9 c κs = rows-listed (λ p. not (bit 0 p) && not (bit 1 p)) 72 _ (omega arith)
 
 slice-write-sums-8 : tie.Need-slice-write-sums-8
 slice-write-sums-8 c = simp length-set (omega (arith, eight _ (c .before .before .before .before .before .before .before .before .before .before .before .before .before .before .before .before .before .before .before .before .pre .1)))
