@@ -1,0 +1,11 @@
+pub mod Bools
+pub mod Same
+pub mod Smaller
+pub mod Choices
+pub mod Lists
+pub mod Totals
+pub mod Stores
+pub mod Tests
+pub mod Told
+pub mod Ladder
+pub mod Rules

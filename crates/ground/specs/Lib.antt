@@ -1,0 +1,6 @@
+pub mod Choice
+pub mod Lists
+pub mod Totals
+pub mod Stores
+pub mod Ladder
+pub mod Rules
