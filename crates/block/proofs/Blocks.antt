@@ -19,11 +19,14 @@ use Rattle.lane.proofs.Rows.{split-below}
 use Rattle.lane.proofs.Mended.{mended-valid, mended-count, mended-near, near-kept}
 use Rattle.block.specs.declared.Shape.{Shape}
 use Rattle.block.specs.Shape.{before, rows}
-use Rattle.block.specs.Words.{lane, word, total}
-use Rattle.block.specs.Block.{ValidBlock, Near, SameRows, Fitting, lanesLost, ifZero, mendedLanes, mendedBlock, bitsChanged}
-use Rattle.block.proofs.Words.{bit-number, number-lt, number-same}
-use Rattle.block.proofs.Flips.{getD-listOf, length-listOf, list-is, word-none}
-use Rattle.block.proofs.Lanes.{total-same, total-zero}
+use Rattle.ground.specs.Totals.{total}
+use Rattle.ground.specs.Choice.{ifZero}
+use Rattle.block.specs.Words.{lane, word}
+use Rattle.ground.proofs.Lists.{getD-listOf, length-listOf, list-is}
+use Rattle.ground.proofs.Totals.{total-same, total-zero}
+use Rattle.block.specs.Block.{ValidBlock, Near, SameRows, Fitting, lanesLost, mendedLanes, mendedBlock, bitsChanged}
+use Rattle.block.proofs.WordBits.{bit-number, number-lt, number-same}
+use Rattle.block.proofs.Flips.{word-none}
 
 -- ---- counts over the lanes
 

@@ -13,12 +13,12 @@ use Rattle.lane.specs.Bit.{bit, pick}
 use Rattle.block.specs.declared.Shape.{Shape}
 use Rattle.block.specs.declared.Verdict.the-variants.{Mended, Lost}
 use Rattle.block.specs.Shape.{before, rows}
-use Rattle.block.specs.Words.{total}
+use Rattle.ground.specs.Totals.{total}
 use Rattle.block.specs.Block.{dataBlock, validBlock, mendedBlock}
 use Rattle.block.specs.Verdict.{verdictOf}
 use Rattle.block.specs.Inner.{sumsOf, anyOf, lostLanes, flippedIn, xorAll, withChecks}
-use Rattle.block.proofs.Words.{both}
-use Rattle.block.proofs.Flips.{getD-listOf}
+use Rattle.ground.proofs.Bools.{both}
+use Rattle.ground.proofs.Lists.{getD-listOf}
 use Rattle.block.proofs.Lanes.{ones-total}
 use Rattle.block.proofs.Judged.{rows-fit, lost-lt, lost-verdict, lost-block, mended-verdict, mended-block}
 use Rattle.block.proofs.Encoding.{xor-over-lt, built}

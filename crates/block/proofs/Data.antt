@@ -13,7 +13,7 @@ use Rattle.lane.proofs.Rows.{row-passes, row-there, rows-rise, data-row, data-f
 use Rattle.block.specs.declared.Shape.{Shape}
 use Rattle.block.specs.declared.Shape.the-variants.{One, Two}
 use Rattle.block.specs.Shape.{before, digits, dataRowsOf, words}
-use Rattle.block.specs.Stores.{length-stores, stores-hit, stores-miss, stores-all}
+use Rattle.ground.proofs.Stores.{length-stores, stores-hit, stores-miss, stores-all}
 use Rattle.block.specs.Block.{blank, dataBlock}
 
 -- the rows before the last number below 2 to the digits

@@ -24,11 +24,11 @@ use Rattle.block.specs.declared.Shape.{Shape}
 use Rattle.block.specs.declared.Shape.the-variants.{One, Two}
 use Rattle.block.specs.Shape.{before, rows, digits}
 use Rattle.block.specs.Words.{row, lane, word}
-use Rattle.block.specs.Stores.{length-stores, stores-hit, stores-miss}
+use Rattle.ground.proofs.Stores.{length-stores, stores-hit, stores-miss}
 use Rattle.block.specs.Block.{dataBlock, validBlock}
 use Rattle.block.specs.Inner.{xorOver, sumsOf, xorAll, withChecks}
-use Rattle.block.proofs.Words.{number-bits}
-use Rattle.block.proofs.Flips.{getD-listOf, list-is}
+use Rattle.block.proofs.WordBits.{number-bits}
+use Rattle.ground.proofs.Lists.{getD-listOf, list-is}
 use Rattle.block.proofs.Lanes.{bit-covered, bit-all}
 use Rattle.block.proofs.Data.{before-digits, before-lt, length-data, data-miss, data-lt}
 

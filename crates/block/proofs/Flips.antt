@@ -17,28 +17,11 @@ use borrow.Author.Tests.{eq-eqb, ne-eqb}
 use Rattle.lane.specs.Bit.{set?, bit, _⊕_}
 use Rattle.lane.proofs.Bits.{bit-zero, bit-xor, bit-and, bit-ext-below, xor-assoc, ⊕-zero}
 use Rattle.lane.proofs.Rows.{power-digit, power-apart}
-use Rattle.block.specs.Words.{word, listOf}
+use Rattle.ground.specs.Lists.{listOf}
+use Rattle.ground.proofs.Lists.{length-listOf, getD-listOf, list-is, listOf-same}
+use Rattle.block.specs.Words.{word}
 use Rattle.block.specs.Inner.{sumAt, rowNamed, flippedIn}
-use Rattle.block.proofs.Words.{number-lt, number-bits, number-same, bit-number}
-
--- ---- lists by their entries
-
-pub length-listOf : (n : ℕ) (f : ℕ → ℕ) → length (listOf n f) ≡ n
-unfolding listOf
-length-listOf zero f = refl
-length-listOf (suc n) f = ap suc (length-listOf n (λ k. f (suc k)))
-
-pub getD-listOf : (n : ℕ) (f : ℕ → ℕ) (j : ℕ) → j < n → getD (listOf n f) j 0 ≡ f j
-unfolding listOf
-getD-listOf zero f j h = absurd (omega arith)
-getD-listOf (suc n) f zero h = refl
-getD-listOf (suc n) f (suc j) h = getD-listOf n (λ k. f (suc k)) j (omega arith)
-
-pub list-is : (n : ℕ) (l : List ℕ) (f : ℕ → ℕ) → length l ≡ n → ((j : ℕ) → j < n → getD l j 0 ≡ f j) → l ≡ listOf n f
-list-is n l f e h = ext-getD 0 l (listOf n f) (e ∙ sym (length-listOf n f)) (λ j b. let k : j < n = omega arith in h j k ∙ sym (getD-listOf n f j k))
-
-pub listOf-same : (n : ℕ) (f g : ℕ → ℕ) → ((j : ℕ) → j < n → f j ≡ g j) → listOf n f ≡ listOf n g
-listOf-same n f g h = list-is n (listOf n f) g (length-listOf n f) (λ j k. getD-listOf n f j k ∙ h j k)
+use Rattle.block.proofs.WordBits.{number-lt, number-bits, number-same, bit-number}
 
 -- ---- the lowest set lane
 

@@ -19,13 +19,16 @@ use Rattle.block.specs.declared.Shape.{Shape}
 use Rattle.block.specs.declared.Shape.the-variants.{One, Two}
 use Rattle.block.specs.declared.Verdict.the-variants.{Clean, Mended, Lost}
 use Rattle.block.specs.Shape.{before, rows}
-use Rattle.block.specs.Words.{lane, total}
+use Rattle.ground.specs.Totals.{total}
+use Rattle.block.specs.Words.{lane}
 use Rattle.block.specs.Block.{lanesLost, mendedLanes, mendedBlock, bitsChanged}
 use Rattle.block.specs.Verdict.{verdict, verdictOf}
 use Rattle.block.specs.Inner.{sumsOf, anyOf, aboveOf, lostLanes, sumAt, rowNamed, flippedIn}
-use Rattle.block.proofs.Words.{number-same}
-use Rattle.block.proofs.Flips.{listOf-same}
-use Rattle.block.proofs.Lanes.{bit-all, sum-at, bit-any, bit-above, lost-test, total-same, ones-total}
+use Rattle.ground.proofs.Lists.{listOf-same}
+use Rattle.ground.proofs.Totals.{total-same}
+use Rattle.ground.proofs.Bools.{neither}
+use Rattle.block.proofs.WordBits.{number-same}
+use Rattle.block.proofs.Lanes.{bit-all, sum-at, bit-any, bit-above, lost-test, ones-total}
 use Rattle.block.proofs.Blocks.{AllKept, none-counted, counted-none, kept-none, mended-kept, mended-lost, unchanged-lanes, changed-odd}
 
 pub before-small : (shape : Shape) → before shape < 2 ^ 7
@@ -138,11 +141,7 @@ module _ (shape : Shape) (block : List ℕ) where
 
       module _ (none : bitOr (anyOf 7 digits) parity ≡ 0) where
         quiet : (i : ℕ) → (bit i (anyOf 7 digits) ≡ false) × (bit i parity ≡ false)
-        quiet i = both (bit i (anyOf 7 digits)) (bit i parity) (sym (bit-or i (anyOf 7 digits) parity) ∙ ap (bit i) none ∙ bit-zero i)
-          where
-            both : (a b : Bool) → a || b ≡ false → (a ≡ false) × (b ≡ false)
-            both true b e = absurd (true≢false e)
-            both false b e = (refl, e)
+        quiet i = neither (bit i (anyOf 7 digits)) (bit i parity) (sym (bit-or i (anyOf 7 digits) parity) ∙ ap (bit i) none ∙ bit-zero i)
 
         unmoved : (i : ℕ) → decide m (lane i block) ≡ decision m false 0
         unmoved i =

@@ -18,10 +18,12 @@ use Rattle.lane.specs.Decision.{flipped, lost, decision, lost?}
 use Rattle.lane.proofs.Bits.{bit-zero, bit-xor, bit-and, bit-or, bit-shift, xor-swap}
 use Rattle.lane.proofs.Linear.{odd-suc}
 use Rattle.lane.proofs.Exactly.{pick-bit, sum-lt}
-use Rattle.block.specs.Words.{row, lane, number, listOf, total}
+use Rattle.ground.specs.Totals.{total}
+use Rattle.ground.specs.Lists.{listOf}
+use Rattle.block.specs.Words.{row, lane, number}
+use Rattle.ground.proofs.Lists.{getD-listOf}
 use Rattle.block.specs.Inner.{xorOver, anyOf, aboveOf, sumAt}
-use Rattle.block.proofs.Words.{xor-snoc, number-lt, number-bits}
-use Rattle.block.proofs.Flips.{getD-listOf}
+use Rattle.block.proofs.WordBits.{xor-snoc, number-lt, number-bits}
 
 -- ---- the digits of the sums, and the parities
 
@@ -155,16 +157,6 @@ total-first : (n : ℕ) (f : ℕ → ℕ) → total (suc n) f ≡ f 0 + total n 
 unfolding total
 total-first zero f = omega arith
 total-first (suc n) f = let h = total-first n f in omega arith
-
-pub total-same : (n : ℕ) (f g : ℕ → ℕ) → ((i : ℕ) → i < n → f i ≡ g i) → total n f ≡ total n g
-unfolding total
-total-same zero f g h = refl
-total-same (suc n) f g h = ap₂ (λ (x y : ℕ). x + y) (total-same n f g (λ i l. h i (omega arith))) (h n (omega arith))
-
-pub total-zero : (n : ℕ) → total n (λ i. 0) ≡ 0
-unfolding total
-total-zero zero = refl
-total-zero (suc n) = omega (arith, total-zero n)
 
 ones-digit : (d : ℕ) → d < 2 → d ≡ pick (set? d) 1
 ones-digit zero h = refl

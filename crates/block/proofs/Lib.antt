@@ -1,4 +1,4 @@
-pub mod Words
+pub mod WordBits
 pub mod Listed
 pub mod Stored
 pub mod Flips

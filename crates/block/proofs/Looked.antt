@@ -18,10 +18,10 @@ use Rattle.block.specs.declared.Verdict.{Verdict}
 use Rattle.block.specs.declared.Verdict.the-variants.{Clean, Mended, Lost}
 use Rattle.block.specs.declared.sums.Sums.{Sums}
 use Rattle.block.specs.Shape.{before, rows}
-use Rattle.block.specs.Words.{listOf}
+use Rattle.ground.specs.Lists.{listOf}
 use Rattle.block.specs.Verdict.{clean?, verdictOf, validFrom}
 use Rattle.block.specs.Inner.{sumsOf, sumWords, anyOf, lostLanes}
-use Rattle.block.proofs.Words.{both}
+use Rattle.ground.proofs.Bools.{both}
 use Rattle.block.proofs.Lanes.{xor-parts}
 use Rattle.block.proofs.Judged.{clean-verdict, lost-verdict, mended-verdict}
 

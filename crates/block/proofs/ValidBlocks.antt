@@ -20,8 +20,8 @@ use Rattle.block.specs.declared.Shape.{Shape}
 use Rattle.block.specs.Shape.{before, rows, digits, words}
 use Rattle.block.specs.Words.{row, lane, word}
 use Rattle.block.specs.Block.{ValidBlock, dataBlock, validBlock, dataOf, SameRows, Fitting}
-use Rattle.block.proofs.Words.{row-at, bit-number, number-lt, number-bits}
-use Rattle.block.proofs.Flips.{getD-listOf, length-listOf, list-is}
+use Rattle.block.proofs.WordBits.{row-at, bit-number, number-lt, number-bits}
+use Rattle.ground.proofs.Lists.{getD-listOf, length-listOf, list-is}
 use Rattle.block.proofs.Data.{before-digits, before-lt, dataRow, entry-row, row-entry, data-hit, data-lt}
 use Rattle.block.proofs.Blocks.{rows-same}
 

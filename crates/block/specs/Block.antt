@@ -11,10 +11,13 @@ use Rattle.lane.specs.Bit.{pick}
 use Rattle.lane.specs.Lane.{Valid, apart}
 use Rattle.lane.specs.Decision.{decide, lost?, changes}
 use Rattle.lane.specs.Encoded.{encoded}
+use Rattle.ground.specs.Choice.{ifZero}
 use Rattle.block.specs.declared.Shape.{Shape}
 use Rattle.block.specs.Shape.{before, rows, digits, dataRowsOf, words}
-use Rattle.block.specs.Words.{row, lane, word, listOf, total}
-use Rattle.block.specs.Stores.{stores}
+use Rattle.ground.specs.Totals.{total}
+use Rattle.ground.specs.Stores.{stores}
+use Rattle.ground.specs.Lists.{listOf}
+use Rattle.block.specs.Words.{row, lane, word}
 
 abbrev pub ValidBlock : Shape → List ℕ → Type 0
 ValidBlock shape block = (i : ℕ) → i < 32 → Valid (before shape) (lane i block)
@@ -61,11 +64,6 @@ dataInto shape block buffer = stores buffer (λ k. k) (λ k. row (getD (dataRows
 -- how many lanes are lost
 unfoldable pub lanesLost : Shape → List ℕ → ℕ
 lanesLost shape block = total 32 (λ i. pick (lost? (decide (before shape) (lane i block))) 1)
-
--- the first where the number is 0, else the second
-abbrev pub ifZero : {A : Type 0} → ℕ → A → A → A
-ifZero zero a b = a
-ifZero (suc n) a b = b
 
 -- the block with the row that each lane's decision names changed in that lane
 unfoldable pub mendedLanes : Shape → List ℕ → List ℕ

@@ -11,8 +11,9 @@ use Rattle.lane.specs.Rows.{rowsWhere, covered, allRows}
 use Rattle.block.specs.declared.Shape.{Shape}
 use Rattle.block.specs.declared.sums.Sums.{Sums}
 use Rattle.block.specs.Shape.{before, rows}
-use Rattle.block.specs.Words.{row, number, word, listOf}
-use Rattle.block.specs.Stores.{stores}
+use Rattle.ground.specs.Lists.{listOf}
+use Rattle.ground.specs.Stores.{stores}
+use Rattle.block.specs.Words.{row, number, word}
 
 -- every entry of a list is the number of one of n rows
 abbrev pub Listed : ℕ → List ℕ → Type 0

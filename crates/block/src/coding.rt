@@ -2,20 +2,14 @@
 ghost use mathlib.Core.Path.{_≡_};
 ghost use Prim.Native.Nat.{_-_, _≤_, _<_};
 ghost use lib.ListN.{length, getD, replicate};
-ghost use Rattle.block.specs.Stores.{stores};
+ghost use Rattle.ground.specs.Stores.{stores};
 ghost use Rattle.block.specs.Block.{dataBlock, validBlock, dataInto};
 ghost use Rattle.block.specs.Inner.{Listed, Rising, copiedInto, xorAll, withChecks};
 use super::Shape;
 use super::sums::lane_sums;
-use super::sums::rows_before;
+use super::shapes::rows_before;
 use super::tables::*;
-
-// The smaller of two lengths.
-fn least(a: usize, b: usize) -> usize
-    ensures { λ r. ⌜ (r ≤ a) × (r ≤ b) × (r < a → r ≡ b) ⌝ }
-{
-    if a < b { a } else { b }
-}
+use ground::least;
 
 // The data words in the listed rows, in order, and zero elsewhere.
 fn place(rows: &[u8], list: &[u32]) -> [u32; 72]

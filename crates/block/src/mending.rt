@@ -9,7 +9,7 @@ ghost use Rattle.block.specs.Inner.{anyOf, aboveOf, sumAt, rowNamed, fli
 use super::Shape;
 use super::Verdict;
 use super::sums::lane_sums;
-use super::sums::rows_before;
+use super::shapes::rows_before;
 
 // The lanes whose sum is not 0.
 fn any(digits: &[u32; 7]) -> u32

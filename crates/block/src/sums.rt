@@ -2,26 +2,17 @@
 ghost use mathlib.Core.Path.{_≡_};
 ghost use Prim.Native.Nat.{_+_, _-_, _≤_};
 ghost use lib.ListN.{length, drop, replicate};
-ghost use Rattle.block.specs.Shape.{before};
+ghost use Rattle.block.specs.Shape.{rows};
 ghost use Rattle.block.specs.Verdict.{validFrom};
 ghost use Rattle.block.specs.Inner.{xorOver, Listed, sumsOf, sumWords, anyOf, Looked};
 use super::Shape;
+use super::shapes::rows;
 use super::tables::*;
 
 // Digit k of every lane's sum as a word, and every lane's parity as a word.
 pub(crate) struct Sums {
     pub(crate) digits: [u32; 7],
     pub(crate) parity: u32,
-}
-
-// How many rows stand before the last.
-pub(crate) fn rows_before(shape: Shape) -> usize
-    ensures { λ r. ⌜ r ≡ before shape ⌝ }
-{
-    match shape {
-        Shape::One => 15,
-        Shape::Two => 71,
-    }
 }
 
 // The exclusive or of the words of the listed rows, of the block whose first row is at `at`.
@@ -41,7 +32,7 @@ fn over(words: &[u32], at: usize, rows: &[u8]) -> u32
 
 // Each sum is stored at once, and the words are lent on by `&*`: so the compiler reads a word where it lies.
 fn sums_one(words: &[u32], at: usize, sums: &mut [u32]) -> u32
-    requires { ⌜ (at + 16 ≤ length (now words)) × (now sums ≡ replicate 8 0) ⌝ }
+    requires { ⌜ (at + rows Shape.One ≤ length (now words)) × (now sums ≡ replicate 8 0) ⌝ }
     ensures stored { λ r. ⌜ now (sums .exit) ≡ sumWords Shape.One (drop at (now (words .entry))) ⌝ }
     ensures some { λ r. ⌜ r ≡ anyOf 8 (sumWords Shape.One (drop at (now (words .entry)))) ⌝ }
 {
@@ -61,7 +52,7 @@ fn sums_one(words: &[u32], at: usize, sums: &mut [u32]) -> u32
 }
 
 fn sums_two(words: &[u32], at: usize, sums: &mut [u32]) -> u32
-    requires { ⌜ (at + 72 ≤ length (now words)) × (now sums ≡ replicate 8 0) ⌝ }
+    requires { ⌜ (at + rows Shape.Two ≤ length (now words)) × (now sums ≡ replicate 8 0) ⌝ }
     ensures stored { λ r. ⌜ now (sums .exit) ≡ sumWords Shape.Two (drop at (now (words .entry))) ⌝ }
     ensures some { λ r. ⌜ r ≡ anyOf 8 (sumWords Shape.Two (drop at (now (words .entry)))) ⌝ }
 {
@@ -96,13 +87,13 @@ fn look(shape: Shape, words: &[u32], at: usize, sums: &mut [u32]) -> u32
     }
     match shape {
         Shape::One => {
-            if words.len() - at < 16 {
+            if words.len() - at < rows(Shape::One) {
                 return 1;
             }
             sums_one(&*words, at, sums)
         }
         Shape::Two => {
-            if words.len() - at < 72 {
+            if words.len() - at < rows(Shape::Two) {
                 return 1;
             }
             sums_two(&*words, at, sums)

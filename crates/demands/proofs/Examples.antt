@@ -11,8 +11,10 @@ use Rattle.lane.specs.Rows.{power?, rowsWhere}
 use Rattle.block.specs.declared.Shape.{Shape}
 use Rattle.block.specs.declared.Verdict.{Verdict}
 use Rattle.block.specs.Shape.{before}
-use Rattle.block.specs.Words.{number, listOf, total}
-use Rattle.block.specs.Stores.{stores}
+use Rattle.ground.specs.Totals.{total}
+use Rattle.ground.specs.Stores.{stores}
+use Rattle.ground.specs.Lists.{listOf}
+use Rattle.block.specs.Words.{number}
 use Rattle.block.specs.Block.{dataBlock, validBlock, mendedBlock}
 use Rattle.block.specs.Verdict.{verdictOf, verdictNumber, verdictCount}
 use Rattle.block.specs.Inner.{xorOver, sumsOf, anyOf, aboveOf, lostLanes, flippedIn, xorAll, withChecks}

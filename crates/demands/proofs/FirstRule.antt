@@ -6,8 +6,7 @@ use mathlib.Core.List.{List, [], _∷_, _++_}
 use mathlib.Core.Logic.{_⊎_, ⊎-elim, _↔_}
 use lib.Dec.{T, eqb}
 use borrow.Author.Tests.{eq-eqb}
-use Rattle.store.specs.Reason.{Rule, FirstOf, NoneOf}
-use Rattle.demands.specs.Refusing.{Given}
+use Rattle.ground.specs.Rules.{Rule, FirstOf, NoneOf, GivenFor}
 
 -- ---- rules with numbers of their own
 
@@ -65,7 +64,7 @@ module _ (rule : Rule) (rules : List Rule) (t : T (distinct? (rule ∷ rules))) 
 pub given : (earlier later : List Rule) (rule : Rule) (n : ℕ)
     → T (distinct? (earlier ++ rule ∷ later))
     → FirstOf (earlier ++ rule ∷ later) n
-    → Given n earlier rule
+    → GivenFor n earlier rule
 given [] later rule n t first = (
   λ e. ⊎-elim (λ r. (tt, r .0)) (λ r. absurd (not-given later (rule .number) n (some rule later t) (apart rule later t) (r .1) e)) first,
   λ h. ⊎-elim (λ r. r .1) (λ r. absurd (r .0 (h .1))) first,

@@ -18,7 +18,8 @@ use Rattle.lane.proofs.Bits.{bit-xor, ⊕-zero}
 use Rattle.lane.proofs.Linear.{count-same}
 use Rattle.lane.proofs.Mended.{count-empty}
 use Rattle.lane.proofs.Rows.{power-apart, split-below}
-use Rattle.block.specs.Stores.{stores, stores-all}
+use Rattle.ground.proofs.Stores.{stores-all}
+use Rattle.ground.specs.Stores.{stores}
 use Rattle.block.specs.Block.{Fitting}
 use Rattle.demands.specs.Steps.{flipped}
 

@@ -10,7 +10,8 @@ use Rattle.store.specs.Layout.{blocks, index}
 use Rattle.store.specs.Refusal.{geometryRefusal, lengthRung, blockRung, layoutRefusal, visitRefusal}
 use Rattle.store.specs.Shapes.{rowsOf}
 use Rattle.store.proofs.Index.{in-range}
-use Rattle.store.proofs.Ladder.{Geometry, geometry, then-zero, length-rung}
+use Rattle.ground.proofs.Ladder.{then-zero}
+use Rattle.store.proofs.Ladder.{Geometry, geometry, length-rung}
 
 -- where a block's visit is accepted, so is the layout
 pub layout-accepted : (len shape s g block : ℕ) → visitRefusal len shape s g block ≡ 0 → layoutRefusal len shape s g ≡ 0

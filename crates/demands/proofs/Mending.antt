@@ -19,7 +19,8 @@ use Rattle.store.specs.Write.{writeAnswer, writeAfter}
 use Rattle.store.specs.Read.{readAnswer, readBuffer, mendedData}
 use Rattle.store.specs.Visit.{visitAnswer, visitAfter}
 use Rattle.store.proofs.After.{visit-held, visit-untouched, write-held, write-untouched}
-use Rattle.store.proofs.Answers.{answered-number, refused-kept}
+use Rattle.ground.proofs.Choices.{refused-kept}
+use Rattle.store.proofs.Answers.{answered-number}
 use Rattle.store.proofs.Image.{length-gathered, gathered-words, placed-gathered}
 use Rattle.store.proofs.Ladder.{data-accepted}
 use Rattle.demands.specs.Mending.{Visiting, Writing, Reading, DemandTwo}

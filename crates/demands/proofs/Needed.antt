@@ -8,8 +8,10 @@ use Rattle.lane.specs.Lane.{sum, count}
 use Rattle.lane.specs.Decision.{decision}
 use Rattle.lane.specs.Encoded.{named}
 use Rattle.lane.specs.Rows.{power?, rowsWhere}
-use Rattle.block.specs.Words.{number, listOf, total}
-use Rattle.block.specs.Stores.{stores}
+use Rattle.ground.specs.Totals.{total}
+use Rattle.ground.specs.Stores.{stores}
+use Rattle.ground.specs.Lists.{listOf}
+use Rattle.block.specs.Words.{number}
 use Rattle.block.specs.Block.{dataBlock, validBlock, dataOf, lanesLost, mendedLanes, mendedBlock, bitsChanged}
 use Rattle.block.specs.Verdict.{verdictOf}
 use Rattle.rota.specs.Waiting.{below, apart}

@@ -12,10 +12,11 @@ use Rattle.lane.proofs.Linear.{count-same}
 use Rattle.lane.proofs.Mended.{⊕-self, count-empty, valid-near}
 use Rattle.block.specs.declared.Shape.{Shape}
 use Rattle.block.specs.Shape.{before, rows}
-use Rattle.block.specs.Words.{lane, total}
+use Rattle.ground.specs.Totals.{total}
+use Rattle.block.specs.Words.{lane}
 use Rattle.block.specs.Block.{ValidBlock, lanesLost, bitsChanged, mendedBlock, Fitting, Near, SameRows}
+use Rattle.ground.proofs.Totals.{total-same, total-zero}
 use Rattle.block.specs.Verdict.{verdictNumber, verdictCount, verdict, verdictOf}
-use Rattle.block.proofs.Lanes.{total-same, total-zero}
 use Rattle.block.proofs.Blocks.{kept-valid, kept-near, near-none, near-rows, mended-fits}
 use Rattle.store.specs.declared.Answer.the-variants.{Found}
 use Rattle.store.proofs.Verdicts.{clean-left}

@@ -4,7 +4,8 @@ use mathlib.Core.Path.{_≡_, sym, ap, _∙_, subst, subst₃}
 use mathlib.Core.List.{List, _∷_, _++_, append-assoc}
 use native.Mathlib.Omega.{arith}
 use lib.ListN.{length, replicate, length-replicate}
-use Rattle.block.specs.Block.{ifZero, lanesLost, mendedBlock, validBlock, dataOf}
+use Rattle.ground.specs.Choice.{ifZero}
+use Rattle.block.specs.Block.{lanesLost, mendedBlock, validBlock, dataOf}
 use Rattle.block.specs.Verdict.{verdictNumber, verdict, verdictOf}
 use Rattle.block.proofs.ValidBlocks.{holds-data}
 use Rattle.rota.specs.Patrol.{memoryAt}

@@ -4,23 +4,25 @@ use mathlib.Core.Path.{_≡_, refl, sym, subst, _∙_}
 use mathlib.Core.List.{List, [], _∷_, _++_}
 use lib.Dec.{T}
 use lib.ListN.{length}
-use Rattle.block.specs.Block.{ifZero}
+use Rattle.ground.specs.Choice.{ifZero}
 use Rattle.store.specs.declared.Answer.{Answer}
 use Rattle.store.specs.Answer.{answerNumber, answered}
-use Rattle.store.specs.Reason.{Rule, noShape, badInterleave, badGroups, badLength, noBlock, badList, layoutRules, visitRules, dataRules, FirstOf}
+use Rattle.ground.specs.Rules.{Rule, FirstOf, Ruled}
+use Rattle.store.specs.Reason.{noShape, badInterleave, badGroups, badLength, noBlock, badList, layoutRules, visitRules, dataRules}
 use Rattle.store.specs.Write.{writeAnswer, writeAfter}
 use Rattle.store.specs.Read.{readAnswer, readBuffer}
+use Rattle.ground.proofs.Choices.{refused-kept}
 use Rattle.store.specs.Visit.{visitAnswer, visitAfter}
-use Rattle.store.proofs.Answers.{answered-number, answered-refused, refused-kept}
+use Rattle.store.proofs.Answers.{answered-number, answered-refused}
 use Rattle.store.proofs.Ladder.{visit-first, data-first}
 use Rattle.patrol.specs.declared.Record.{Record}
 use Rattle.patrol.specs.Ask.{asked}
 use Rattle.patrol.specs.Turn.{turned}
 use Rattle.patrol.proofs.Numbers.{place-bare, report-bare}
 use Rattle.patrol.proofs.Kept.{format-kept, ask-kept, turn-kept}
+use Rattle.ground.proofs.Rules.{distinct?, given, none-given}
 use Rattle.patrol.proofs.Reasons.{format-first, ask-first, turn-first}
-use Rattle.demands.specs.Refusing.{Ruled, Refusing, VisitNumbers, DataNumbers, FormatRefusing, AskRefusing, TurnRefusing, DemandOne}
-use Rattle.demands.proofs.FirstRule.{distinct?, given, none-given}
+use Rattle.demands.specs.Refusing.{Refusing, VisitNumbers, DataNumbers, FormatRefusing, AskRefusing, TurnRefusing, DemandOne}
 
 -- a number that is the first of its rules
 ruled : (rules : List Rule) (number : ℕ) → T (distinct? rules) → FirstOf rules number → Ruled rules number

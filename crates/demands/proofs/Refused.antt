@@ -4,7 +4,7 @@ use mathlib.Core.Path.{_≡_, refl, sym, ap, _∙_}
 use mathlib.Core.List.{List, [], _∷_}
 use native.Mathlib.Omega.{arith}
 use lib.ListN.{length}
-use Rattle.block.specs.Block.{ifZero}
+use Rattle.ground.specs.Choice.{ifZero}
 use Rattle.rota.specs.declared.Place.the-variants.{Given}
 use Rattle.store.specs.Refusal.{geometryRefusal, layoutRefusal}
 use Rattle.patrol.specs.declared.Record.{Record}

@@ -17,7 +17,7 @@ use Rattle.block.specs.Shape.{before, rows, words}
 use Rattle.block.specs.Words.{row, lane}
 use Rattle.block.specs.Block.{validBlock, dataOf, SameRows, Fitting}
 use Rattle.block.proofs.Data.{dataRow, entry-row}
-use Rattle.block.proofs.Flips.{list-is, listOf-same}
+use Rattle.ground.proofs.Lists.{list-is, listOf-same}
 use Rattle.block.proofs.ValidBlocks.{valid-only, zero-valid}
 
 module _ (kind : Shape) (a b : List ℕ) where

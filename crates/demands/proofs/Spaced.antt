@@ -4,7 +4,7 @@ use mathlib.Core.Path.{_≡_, sym, ap, ap₂, _∙_, subst}
 use mathlib.Core.List.{List, _∷_, _++_}
 use native.Mathlib.Omega.{arith}
 use lib.ListN.{length}
-use Rattle.block.specs.Block.{ifZero}
+use Rattle.ground.specs.Choice.{ifZero}
 use Rattle.rota.specs.Patrol.{StepOf, Spaced}
 use Rattle.rota.specs.Steps.{other}
 use Rattle.rota.specs.Touches.{Touch, write as writes, read as reads, visit as visits, flip as flips, nothing}

@@ -5,7 +5,8 @@ use mathlib.Core.Path.{_≡_, refl, sym, ap, _∙_}
 use mathlib.Core.List.{List, [], _∷_, map}
 use lib.Dec.{eqb}
 use lib.ListN.{length}
-use Rattle.block.specs.Block.{ifZero, Fitting}
+use Rattle.ground.specs.Choice.{ifZero}
+use Rattle.block.specs.Block.{Fitting}
 use Rattle.rota.specs.Touches.{write as writes, read as reads, visit as visits, nothing, overwritten, meant as rotaMeant, lastWritten as rotaWritten}
 use Rattle.store.specs.Refusal.{layoutRefusal, visitRefusal, dataRefusal}
 use Rattle.store.specs.Shapes.{wordsOf}

@@ -6,7 +6,8 @@ use mathlib.Core.Logic.{_↔_}
 use lib.ListN.{length, replicate}
 use Rattle.store.specs.declared.Answer.{Answer}
 use Rattle.store.specs.Answer.{answerNumber, answerVerdict, answerCount}
-use Rattle.store.specs.Reason.{Rule, noShape, badInterleave, badGroups, badLength, noBlock, badList, layoutRules, visitRules, dataRules, NoneOf}
+use Rattle.ground.specs.Rules.{Rule, NoneOf}
+use Rattle.store.specs.Reason.{noShape, badInterleave, badGroups, badLength, noBlock, badList, layoutRules, visitRules, dataRules}
 use Rattle.store.specs.Write.{writeAnswer, writeAfter}
 use Rattle.store.specs.Read.{readAnswer, readBuffer}
 use Rattle.store.specs.Visit.{visitAnswer, visitAfter}

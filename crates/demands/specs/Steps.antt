@@ -6,7 +6,7 @@ use mathlib.Core.List.{List, [], _∷_}
 use lib.Bits.{bitXor}
 use lib.Dec.{eqb, ltb}
 use lib.ListN.{getD, set}
-use Rattle.block.specs.Block.{ifZero}
+use Rattle.ground.specs.Choice.{ifZero}
 use Rattle.rota.specs.Numbers.{placeNumber}
 use Rattle.store.specs.Answer.{answerNumber}
 use Rattle.store.specs.Write.{writeAnswer, writeAfter}

@@ -11,9 +11,12 @@ use lib.Dec.{eqb, ltb}
 use lib.ListN.{length, length-drop}
 use Rattle.store.specs.Layout.{blocks}
 use Rattle.store.specs.Shapes.{rowsOf}
-use Rattle.store.specs.Refusal.{_when_else_, _then_, geometryRefusal, layoutRefusal}
-use Rattle.store.specs.Reason.{Rule, noShape, badInterleave, badGroups, FirstOf}
-use Rattle.store.proofs.Ladder.{Rung, Geometry, geometry, then-first, then-assoc, then-zero, first-more, geometry-first}
+use Rattle.ground.specs.Ladder.{_when_else_, _then_}
+use Rattle.ground.specs.Rules.{Rule, FirstOf}
+use Rattle.ground.proofs.Ladder.{Rung, then-first, then-assoc, then-zero, first-more}
+use Rattle.store.specs.Refusal.{geometryRefusal, layoutRefusal}
+use Rattle.store.specs.Reason.{noShape, badInterleave, badGroups}
+use Rattle.store.proofs.Ladder.{Geometry, geometry, geometry-first}
 use Rattle.file.specs.declared.Header.the-variants.{Refused, Image}
 use Rattle.file.specs.Header.{headerOf}
 use Rattle.file.specs.Bytes.{versionIn, fieldIn, shapeIn, interleaveIn, groupsIn}

@@ -5,8 +5,8 @@ use mathlib.Core.List.{List}
 use native.Mathlib.Nat.{min-eq-left}
 use native.Mathlib.Omega.{arith}
 use lib.ListN.{length}
-use Rattle.block.specs.Stores.{length-stores, stores-hit}
-use Rattle.block.proofs.Flips.{list-is}
+use Rattle.ground.proofs.Stores.{length-stores, stores-hit}
+use Rattle.ground.proofs.Lists.{list-is}
 use Rattle.store.specs.Refusal.{layoutRefusal}
 use Rattle.file.specs.declared.Header.the-variants.{Image}
 use Rattle.file.specs.Bytes.{shapeIn, interleaveIn, groupsIn, wordCount, wordIn, wordsIn, wordsInto}

@@ -6,9 +6,10 @@ use native.Mathlib.Omega.{arith}
 use borrow.Author.Tests.{eq-eqb, le-ltb}
 use lib.ListN.{length, getD}
 use lib.Seq.{getD-append-add}
-use Rattle.block.specs.Words.{listOf}
-use Rattle.block.proofs.Flips.{length-listOf, list-is}
-use Rattle.store.specs.Refusal.{_then_, layoutRefusal}
+use Rattle.ground.specs.Lists.{listOf}
+use Rattle.ground.proofs.Lists.{length-listOf, list-is}
+use Rattle.ground.specs.Ladder.{_then_}
+use Rattle.store.specs.Refusal.{layoutRefusal}
 use Rattle.file.specs.BigEndian.{pairOf, pairBytes, wordOf, wordBytes, wordAt}
 use Rattle.file.specs.Bytes.{bytesOf, fileOf, versionIn, fieldIn, shapeIn, interleaveIn, groupsIn, wordCount, wordIn, wordsIn}
 use Rattle.file.specs.Refusal.{longRung, frameRefusal, bodyRefusal, fileRefusal}

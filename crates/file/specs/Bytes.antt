@@ -3,8 +3,8 @@
 use Prim.Native.Nat.{ℕ, _+_, _-_, _*_, _/_, min}
 use mathlib.Core.List.{List, [], _∷_, _++_}
 use lib.ListN.{length, getD}
-use Rattle.block.specs.Words.{listOf}
-use Rattle.block.specs.Stores.{stores}
+use Rattle.ground.specs.Lists.{listOf}
+use Rattle.ground.specs.Stores.{stores}
 use Rattle.file.specs.BigEndian.{pairBytes, wordBytes, pairAt, wordAt}
 
 -- ---- from an image to its file

@@ -5,7 +5,8 @@ use mathlib.Core.List.{List, [], _∷_}
 use lib.ListN.{length, drop}
 use Rattle.store.specs.Layout.{blocks}
 use Rattle.store.specs.Shapes.{rowsOf}
-use Rattle.store.specs.Reason.{Rule, noShape, badInterleave, badGroups}
+use Rattle.ground.specs.Rules.{Rule}
+use Rattle.store.specs.Reason.{noShape, badInterleave, badGroups}
 use Rattle.file.specs.Bytes.{versionIn, fieldIn, shapeIn, interleaveIn, groupsIn}
 
 -- file above 32,768 bytes

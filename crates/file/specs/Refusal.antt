@@ -7,7 +7,8 @@ use lib.Dec.{ltb, eqb}
 use lib.ListN.{length}
 use Rattle.store.specs.Layout.{blocks}
 use Rattle.store.specs.Shapes.{rowsOf}
-use Rattle.store.specs.Refusal.{_when_else_, _then_, geometryRefusal}
+use Rattle.ground.specs.Ladder.{_when_else_, _then_}
+use Rattle.store.specs.Refusal.{geometryRefusal}
 use Rattle.file.specs.Bytes.{versionIn, fieldIn, shapeIn, interleaveIn, groupsIn}
 
 -- 11: file above 32,768 bytes

@@ -5,7 +5,8 @@ use mathlib.Core.Path.{_≡_, refl, ap, _∙_}
 use native.Mathlib.Omega.{arith}
 use lib.ListN.{length, getD, set}
 use lib.Seq.{ext-getD}
-use Rattle.block.specs.Stores.{stores, length-stores, stores-hit, stores-miss}
+use Rattle.ground.proofs.Stores.{length-stores, stores-hit, stores-miss}
+use Rattle.ground.specs.Stores.{stores}
 
 pub one-filled : (l : List ℕ) (a : ℕ) → length l ≡ 1 → set l 0 a ≡ a ∷ []
 one-filled [] a e = absurd (omega arith)

@@ -2,7 +2,7 @@
 ghost use mathlib.Core.Path.{_≡_};
 ghost use Prim.Native.Nat.{_+_};
 ghost use lib.ListN.{length, getD, take, drop};
-ghost use Rattle.block.specs.Stores.{stores};
+ghost use Rattle.ground.specs.Stores.{stores};
 ghost use Rattle.foldgrebe.specs.Words.{recordOf, recordWords};
 use patrol::Record;
 use rota::Rota;

@@ -10,7 +10,8 @@ use lib.Seq.{getD-take, getD-drop}
 use Rattle.rota.specs.declared.Rota.{Rota}
 use Rattle.rota.specs.Record.{unbroken}
 use Rattle.patrol.specs.Reason.{InUse, waits, Broken, next-outside, too-many, ask-outside, ask-twice, not-empty}
-use Rattle.patrol.proofs.Told.{Told, told-same, told-or, told-exactly, ltb-told, leb-told, Some, below-told, zeros-told, Twice, apart-told}
+use Rattle.ground.proofs.Told.{Told, told-same, told-or, told-exactly, ltb-told, leb-told}
+use Rattle.patrol.proofs.Told.{Some, below-told, zeros-told, Twice, apart-told}
 
 -- ---- the places in use, and those that are not
 

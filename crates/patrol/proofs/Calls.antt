@@ -11,8 +11,9 @@ use Rattle.rota.specs.Record.{fresh, asked as rotaAsked, turned as rotaTurned}
 use Rattle.rota.proofs.Ranges.{due-inside}
 use Rattle.store.specs.Layout.{blocks}
 use Rattle.store.specs.Refusal.{geometryRefusal, layoutRefusal}
-use Rattle.store.proofs.Answers.{refused-kept}
-use Rattle.store.proofs.Ladder.{then-zero, geometry}
+use Rattle.ground.proofs.Choices.{refused-kept}
+use Rattle.ground.proofs.Ladder.{then-zero}
+use Rattle.store.proofs.Ladder.{geometry}
 use Rattle.patrol.specs.declared.Record.{Record}
 use Rattle.patrol.specs.declared.Report.{Report}
 use Rattle.patrol.specs.declared.Report.the-variants.{Refused}

@@ -3,15 +3,16 @@ use Prim.Native.Nat.{ℕ, zero, suc}
 use mathlib.Core.Path.{_≡_, refl, ap, _∙_}
 use mathlib.Core.List.{List}
 use lib.ListN.{length}
-use Rattle.block.specs.Block.{ifZero}
+use Rattle.ground.specs.Choice.{ifZero}
 use Rattle.rota.specs.declared.Asked.{Asked as RotaAsked}
 use Rattle.rota.specs.declared.Turned.{Turned as RotaTurned}
 use Rattle.rota.specs.Numbers.{placeNumber}
 use Rattle.rota.specs.Record.{askNumber, turnNumber}
 use Rattle.rota.proofs.Numbers as rotaNumbers
 use Rattle.store.specs.Layout.{blocks}
-use Rattle.store.specs.Refusal.{_then_, geometryRefusal, layoutRefusal}
-use Rattle.store.proofs.Answers.{refused-kept}
+use Rattle.ground.specs.Ladder.{_then_}
+use Rattle.ground.proofs.Choices.{refused-kept}
+use Rattle.store.specs.Refusal.{geometryRefusal, layoutRefusal}
 use Rattle.patrol.specs.declared.Record.{Record}
 use Rattle.patrol.specs.Format.{noRecord, formatted, formatAfter}
 use Rattle.patrol.specs.Ask.{withRota, asked}

@@ -6,7 +6,7 @@ use native.Mathlib.Omega.{arith}
 use lib.ListN.{length, getD, replicate}
 use Rattle.block.specs.declared.Verdict.{Verdict}
 use Rattle.block.specs.declared.Verdict.the-variants.{Clean, Mended, Lost}
-use Rattle.block.specs.Block.{ifZero}
+use Rattle.ground.specs.Choice.{ifZero}
 use Rattle.block.specs.Verdict.{verdictNumber}
 use Rattle.rota.specs.declared.Place.{Place}
 use Rattle.rota.specs.declared.Place.the-variants.{Given, Refused as NoPlace}
@@ -16,7 +16,8 @@ use Rattle.rota.specs.Numbers.{placeNumber, placeGiven, dueNumber}
 use Rattle.rota.specs.Record.{askNumber, asked as rotaAsked, turnNumber, turned as rotaTurned}
 use Rattle.rota.proofs.Numbers as rotaNumbers
 use Rattle.store.specs.Layout.{blocks}
-use Rattle.store.specs.Refusal.{_then_, geometryRefusal, layoutRefusal}
+use Rattle.ground.specs.Ladder.{_then_}
+use Rattle.store.specs.Refusal.{geometryRefusal, layoutRefusal}
 use Rattle.store.proofs.Answers.{verdicts-apart}
 use Rattle.patrol.specs.declared.Record.{Record}
 use Rattle.patrol.specs.declared.Asked.{Asked}

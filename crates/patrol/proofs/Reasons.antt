@@ -15,16 +15,20 @@ use Rattle.rota.specs.Asking.{askRefusal}
 use Rattle.rota.specs.Numbers.{placeNumber}
 use Rattle.rota.specs.Record.{unbroken, askNumber, turnNumber}
 use Rattle.store.specs.Layout.{blocks}
-use Rattle.store.specs.Reason.{Rule, noShape, badInterleave, badGroups, noBlock, layoutRules, FirstOf}
-use Rattle.store.specs.Refusal.{_then_, geometryRefusal}
-use Rattle.store.proofs.Ladder.{Rung, first-more, geometry-first, layout-first}
+use Rattle.ground.specs.Rules.{Rule, FirstOf}
+use Rattle.ground.specs.Ladder.{_then_}
+use Rattle.ground.proofs.Ladder.{Rung, first-more}
+use Rattle.store.specs.Reason.{noShape, badInterleave, badGroups, noBlock, layoutRules}
+use Rattle.store.specs.Refusal.{geometryRefusal}
+use Rattle.store.proofs.Ladder.{geometry-first, layout-first}
 use Rattle.patrol.specs.declared.Record.{Record}
 use Rattle.patrol.specs.Format.{formatted}
 use Rattle.patrol.specs.Ask.{asked}
+use Rattle.ground.proofs.Told.{Told, holds, fails, leb-told, ltb-told}
 use Rattle.patrol.specs.Turn.{turned}
 use Rattle.patrol.specs.Numbers.{reportNumber}
 use Rattle.patrol.specs.Reason.{badRecord, noPlace, askRules, turnRules}
-use Rattle.patrol.proofs.Told.{Told, holds, fails, leb-told, ltb-told, place-told}
+use Rattle.patrol.proofs.Told.{place-told}
 use Rattle.patrol.proofs.Broken.{inUse, used, used-inside, some-used, used-some, unbroken-told}
 use Rattle.patrol.proofs.Numbers.{ask-number, turn-number}
 

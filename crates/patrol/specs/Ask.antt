@@ -1,7 +1,7 @@
 -- Ask puts a block on the waiting list of the record. Refusals: 1, 2, 3 of the record's layout, then 5, 6, 8 of its rota.
 -- A refused ask hands back the record that it got. Assumes nothing.
 use Prim.Native.Nat.{ℕ}
-use Rattle.block.specs.Block.{ifZero}
+use Rattle.ground.specs.Choice.{ifZero}
 use Rattle.rota.specs.declared.Rota.{Rota}
 use Rattle.rota.specs.declared.Place.the-variants.{Refused}
 use Rattle.rota.specs.Record.{asked as rotaAsked}

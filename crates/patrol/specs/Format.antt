@@ -6,7 +6,7 @@ use mathlib.Core.List.{List}
 use lib.ListN.{length, replicate}
 use Rattle.rota.specs.Record.{fresh}
 use Rattle.store.specs.Refusal.{layoutRefusal}
-use Rattle.block.specs.Block.{ifZero}
+use Rattle.ground.specs.Choice.{ifZero}
 use Rattle.patrol.specs.declared.Record.{Record}
 use Rattle.patrol.specs.declared.Formatted.{Formatted}
 

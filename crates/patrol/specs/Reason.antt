@@ -5,7 +5,8 @@ use mathlib.Core.List.{List, [], _∷_, _++_}
 use lib.ListN.{length, getD}
 use Rattle.rota.specs.declared.Rota.{Rota}
 use Rattle.store.specs.Layout.{blocks}
-use Rattle.store.specs.Reason.{Rule, noShape, badInterleave, badGroups, noBlock, layoutRules}
+use Rattle.ground.specs.Rules.{Rule}
+use Rattle.store.specs.Reason.{noShape, badInterleave, badGroups, noBlock, layoutRules}
 use Rattle.patrol.specs.declared.Record.{Record}
 
 -- a place of the waiting list, counted from 0: in use, or not

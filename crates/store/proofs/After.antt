@@ -4,7 +4,8 @@ use mathlib.Core.Path.{_≡_, refl, _∙_}
 use mathlib.Core.List.{List}
 use lib.ListN.{length, getD}
 use Rattle.block.specs.declared.Shape.{Shape}
-use Rattle.block.specs.Block.{ifZero, mendedBlock, validBlock, Fitting}
+use Rattle.ground.specs.Choice.{ifZero}
+use Rattle.block.specs.Block.{mendedBlock, validBlock, Fitting}
 use Rattle.block.proofs.Blocks.{length-mended, mended-fits}
 use Rattle.block.proofs.ValidBlocks.{length-valid, valid-out, valid-fits}
 use Rattle.store.specs.Image.{gathered, placed, Untouched}

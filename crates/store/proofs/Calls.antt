@@ -11,11 +11,11 @@ use Rattle.block.specs.declared.Verdict.{Verdict}
 use Rattle.block.specs.declared.Verdict.the-variants.{Clean, Lost}
 use Rattle.block.specs.Shape.{rows, words, dataRowsOf}
 use Rattle.block.specs.Words.{row}
-use Rattle.block.specs.Stores.{length-stores, stores-hit}
+use Rattle.ground.proofs.Stores.{length-stores, stores-hit}
 use Rattle.block.specs.Block.{blank, validBlock, mendedBlock, dataInto, dataOf}
 use Rattle.block.specs.Verdict.{verdictOf}
 use Rattle.block.proofs.Verdict.{the-type}
-use Rattle.block.proofs.Flips.{list-is}
+use Rattle.ground.proofs.Lists.{list-is}
 use Rattle.store.specs.declared.Answer.the-variants.{Refused, Stored, Found}
 use Rattle.store.specs.Inner.{strideRead, strideWrite}
 use Rattle.store.specs.Image.{gathered, placed}
@@ -24,7 +24,8 @@ use Rattle.store.specs.Read.{readAnswer, readBuffer, mendedData, Reads}
 use Rattle.store.specs.Refusal.{visitRefusal, dataRefusal}
 use Rattle.store.specs.Shapes.{shapeOf}
 use Rattle.store.specs.Visit.{visitAnswer, visitAfter, Visits}
-use Rattle.store.proofs.Answers.{answered-refused, refused-kept}
+use Rattle.ground.proofs.Choices.{refused-kept}
+use Rattle.store.proofs.Answers.{answered-refused}
 use Rattle.store.proofs.Image.{gathered-stride, placed-stride}
 use Rattle.store.proofs.Located.{Located, list-fits}
 use Rattle.store.proofs.Strides.{left}

@@ -10,7 +10,8 @@ use lib.Seq.{ext-getD}
 use Rattle.block.specs.declared.Shape.{Shape}
 use Rattle.block.specs.Shape.{rows}
 use Rattle.block.specs.Block.{blank, Fitting}
-use Rattle.block.specs.Stores.{stores, length-stores, stores-miss, stores-hit, stores-agree, stores-same, stores-all}
+use Rattle.ground.proofs.Stores.{length-stores, stores-miss, stores-hit, stores-agree, stores-same, stores-all}
+use Rattle.ground.specs.Stores.{stores}
 use Rattle.block.proofs.Judged.{rows-fit}
 use Rattle.store.specs.Layout.{index}
 use Rattle.store.specs.Image.{gathered, placed, Untouched}

@@ -11,8 +11,10 @@ use borrow.Author.Tests.{eq-eqb, ne-eqb, eqb-false, eqb-true, ltb-false, ltb-tru
 use lib.Dec.{T, ltb, leb, eqb}
 use Rattle.store.specs.Layout.{blocks}
 use Rattle.store.specs.Shapes.{rowsOf, wordsOf}
-use Rattle.store.specs.Refusal.{_when_else_, _then_, shapeRung, interleaveRung, groupsRung, lengthRung, blockRung, listRung, geometryRefusal, layoutRefusal, visitRefusal, dataRefusal}
-use Rattle.store.specs.Reason.{Rule, noShape, badInterleave, badGroups, badLength, noBlock, badList, layoutRules, visitRules, dataRules, FirstOf}
+use Rattle.ground.specs.Ladder.{_when_else_, _then_}
+use Rattle.ground.specs.Rules.{Rule, FirstOf}
+use Rattle.store.specs.Refusal.{shapeRung, interleaveRung, groupsRung, lengthRung, blockRung, listRung, geometryRefusal, layoutRefusal, visitRefusal, dataRefusal}
+use Rattle.store.specs.Reason.{noShape, badInterleave, badGroups, badLength, noBlock, badList, layoutRules, visitRules, dataRules}
 
 -- ---- a rung
 

@@ -11,7 +11,8 @@ use Rattle.store.specs.Shapes.{shapeOf, rowsOf}
 use Rattle.store.specs.Refusal.{listRung, visitRefusal, dataRefusal}
 use Rattle.store.specs.Inner.{placeIf, placeOf, Inside}
 use Rattle.store.proofs.Index.{stride, in-range}
-use Rattle.store.proofs.Ladder.{accepted, then-first}
+use Rattle.ground.proofs.Ladder.{then-first}
+use Rattle.store.proofs.Ladder.{accepted}
 
 pub nowhere : (number : ℕ) (shape : Shape) (at : ℕ) → (number ≡ 0 → ⊥) → placeIf number shape at ≡ Nowhere number
 nowhere zero shape at ne = absurd (ne refl)

@@ -17,11 +17,13 @@ use Rattle.lane.proofs.Rows.{split-below}
 use Rattle.block.specs.declared.Shape.{Shape}
 use Rattle.block.specs.Shape.{before, rows}
 use Rattle.block.specs.Words.{lane}
-use Rattle.block.specs.Block.{SameRows, ifZero, lanesLost, mendedLanes, mendedBlock, bitsChanged}
+use Rattle.ground.specs.Choice.{ifZero}
+use Rattle.block.specs.Block.{SameRows, lanesLost, mendedLanes, mendedBlock, bitsChanged}
 use Rattle.block.specs.Verdict.{verdict, verdictOf}
-use Rattle.block.proofs.Words.{number-same}
-use Rattle.block.proofs.Flips.{getD-listOf, word-none}
-use Rattle.block.proofs.Lanes.{total-same}
+use Rattle.ground.proofs.Lists.{getD-listOf}
+use Rattle.ground.proofs.Totals.{total-same}
+use Rattle.block.proofs.WordBits.{number-same}
+use Rattle.block.proofs.Flips.{word-none}
 use Rattle.block.proofs.Blocks.{length-lanes}
 
 -- ---- past the rows

@@ -13,7 +13,7 @@ use Rattle.block.specs.declared.Shape.{Shape}
 use Rattle.block.specs.declared.Verdict.{Verdict}
 use Rattle.block.specs.declared.Verdict.the-variants.{Clean}
 use Rattle.block.specs.Shape.{rows}
-use Rattle.block.specs.Stores.{length-stores, stores-miss, stores-hit, stores-same}
+use Rattle.ground.proofs.Stores.{length-stores, stores-miss, stores-hit, stores-same}
 use Rattle.block.specs.Block.{blank, SameRows, mendedBlock}
 use Rattle.block.specs.Verdict.{verdictOf, validFrom}
 use Rattle.block.proofs.Verdict.{the-type}

@@ -6,7 +6,7 @@ use lib.ListN.{length, getD}
 use Rattle.block.specs.declared.Shape.{Shape}
 use Rattle.block.specs.Shape.{rows}
 use Rattle.block.specs.Block.{blank}
-use Rattle.block.specs.Stores.{stores}
+use Rattle.ground.specs.Stores.{stores}
 use Rattle.store.specs.Layout.{index}
 
 -- the block as it lies in the image: word k holds row k + 1

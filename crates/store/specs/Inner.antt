@@ -3,7 +3,7 @@ use Prim.Native.Nat.{ℕ, zero, suc, _+_, _*_, _≤_, _<_}
 use mathlib.Core.List.{List}
 use lib.ListN.{getD}
 use Rattle.block.specs.declared.Shape.{Shape}
-use Rattle.block.specs.Stores.{stores}
+use Rattle.ground.specs.Stores.{stores}
 use Rattle.store.specs.declared.places.Place.{Place}
 use Rattle.store.specs.declared.places.Place.the-variants.{Nowhere, At}
 use Rattle.store.specs.Layout.{index}

@@ -4,7 +4,8 @@ use mathlib.Core.Path.{_≡_}
 use mathlib.Core.List.{List}
 use lib.ListN.{length}
 use Rattle.block.specs.declared.Shape.{Shape}
-use Rattle.block.specs.Block.{ifZero, lanesLost, mendedBlock, dataOf}
+use Rattle.ground.specs.Choice.{ifZero}
+use Rattle.block.specs.Block.{lanesLost, mendedBlock, dataOf}
 use Rattle.block.specs.Verdict.{verdictOf}
 use Rattle.store.specs.declared.Answer.{Answer}
 use Rattle.store.specs.declared.Answer.the-variants.{Found}

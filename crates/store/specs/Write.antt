@@ -3,7 +3,8 @@ use Prim.Native.Nat.{ℕ}
 use mathlib.Core.Path.{_≡_}
 use mathlib.Core.List.{List}
 use lib.ListN.{length}
-use Rattle.block.specs.Block.{ifZero, validBlock}
+use Rattle.ground.specs.Choice.{ifZero}
+use Rattle.block.specs.Block.{validBlock}
 use Rattle.store.specs.declared.Answer.{Answer}
 use Rattle.store.specs.declared.Answer.the-variants.{Stored}
 use Rattle.store.specs.Answer.{answered}

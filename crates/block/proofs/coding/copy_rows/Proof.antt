@@ -7,9 +7,11 @@ use lib.ListN.{length, getD, length-set}
 use lib.Seq.{set-out}
 use borrow.Author.Needs.{needs}
 use Rattle.block.specs.Words.{row}
-use Rattle.block.specs.Stores.{stores, length-stores, stores-more}
+use Rattle.ground.proofs.Stores.{length-stores, stores-more}
+use Rattle.ground.specs.Stores.{stores}
 use Rattle.block.specs.Inner.{copiedInto}
-use Rattle.block.proofs.Words.{row-at}
+use Rattle.block.proofs.WordBits.{row-at}
+use Rattle.ground.proofs.Smaller.{least-of}
 use Rattle.block.proofs.coding.copy_rows.Statement.{statement}
 use Rattle.block.proofs.coding.copy_rows.Tie as tie
 
@@ -31,7 +33,7 @@ least-requires c κs = search needs
 
 loop-holds : tie.Need-loop-holds Inv-loop μ-loop
 unfolding stores
-loop-holds c = let l = c .least .ensures in (omega arith, l .0, l .1, l .2, refl, refl)
+loop-holds c = let l = least-of _ _ _ (c .least .ensures) in (omega arith, l .first, l .second, l .either, refl, refl)
 
 shared-slice-read-p : tie.Need-shared-slice-read-p Inv-loop μ-loop
 shared-slice-read-p c = omega (arith, c .before .before .loop .inv .1)

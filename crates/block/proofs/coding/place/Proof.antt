@@ -7,9 +7,11 @@ use native.Mathlib.Omega.{arith}
 use lib.ListN.{length, getD, set, replicate, List·getD-eq-default}
 use lib.Seq.{set-getD}
 use borrow.Author.Needs.{needs}
-use Rattle.block.specs.Stores.{stores, stores-miss, stores-more}
+use Rattle.ground.proofs.Stores.{stores-miss, stores-more}
+use Rattle.ground.specs.Stores.{stores}
 use Rattle.block.specs.Inner.{Listed, Rising}
 use Rattle.block.proofs.Data.{blank-zero}
+use Rattle.ground.proofs.Smaller.{least-of}
 use Rattle.block.proofs.coding.place.Statement.{statement}
 use Rattle.block.proofs.coding.place.Tie as tie
 
@@ -32,7 +34,7 @@ least-requires c κs = search needs
 
 loop-holds : tie.Need-loop-holds Inv-loop μ-loop
 unfolding stores
-loop-holds c = let l = c .least .ensures in (omega arith, l .0, l .1, l .2, refl)
+loop-holds c = let l = least-of _ _ _ (c .least .ensures) in (omega arith, l .first, l .second, l .either, refl)
 
 shared-slice-read-p : tie.Need-shared-slice-read-p Inv-loop μ-loop
 shared-slice-read-p c = omega (arith, c .before .before .loop .inv .1)

@@ -7,7 +7,7 @@ use native.Mathlib.Omega.{arith}
 use lib.ListN.{getD}
 use lib.Pow.{pow-mono, pow-pos}
 use Rattle.block.specs.Inner.{withChecks}
-use Rattle.block.specs.Stores.{stores}
+use Rattle.ground.specs.Stores.{stores}
 use borrow.Author.Needs.{needs}
 use Rattle.block.proofs.coding.set_checks.Statement.{statement}
 use Rattle.block.proofs.coding.set_checks.Tie as tie

@@ -11,7 +11,7 @@ use Rattle.lane.specs.Bit.{bit}
 use borrow.Author.Tests.{eq-eqb, ne-eqb}
 use Rattle.block.specs.Words.{number}
 use Rattle.block.specs.Inner.{sumAt}
-use Rattle.block.proofs.Words.{digit-one, digit-zero, number-lt}
+use Rattle.block.proofs.WordBits.{digit-one, digit-zero, number-lt}
 use borrow.Author.Needs.{needs}
 use Rattle.block.proofs.mending.row_named.Statement.{statement}
 use Rattle.block.proofs.mending.row_named.Tie as tie

@@ -9,7 +9,7 @@ use lib.Seq.{take-all, getD-drop}
 use borrow.Author.Needs.{needs}
 use Rattle.block.specs.Words.{row}
 use Rattle.block.specs.Inner.{xorOver}
-use Rattle.block.proofs.Words.{row-at, xor-more}
+use Rattle.block.proofs.WordBits.{row-at, xor-more}
 use Rattle.block.proofs.sums.over.Statement.{statement}
 use Rattle.block.proofs.sums.over.Tie as tie
 

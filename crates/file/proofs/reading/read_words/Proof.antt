@@ -5,7 +5,7 @@ use native.Mathlib.Omega.{arith}
 use native.Mathlib.Numerals.{add-one}
 use borrow.Author.Needs.{needs}
 use lib.ListN.{length, length-set}
-use Rattle.block.specs.Stores.{stores}
+use Rattle.ground.specs.Stores.{stores}
 use Rattle.file.specs.Bytes.{wordCount, wordIn, wordsInto}
 use Rattle.file.proofs.reading.read_words.Statement.{statement}
 use Rattle.file.proofs.reading.read_words.Tie as tie

@@ -1,7 +1,7 @@
 -- `file::refusals::check_body` meets its contract: bytes that are no whole words are refused, and whole words as the store does. Assumes nothing.
 use mathlib.Core.Path.{sym, _∙_}
 use borrow.Author.Needs.{needs}
-use Rattle.store.proofs.Ladder.{then-first}
+use Rattle.ground.proofs.Ladder.{then-first}
 use Rattle.file.specs.Refusal.{bodyRefusal}
 use Rattle.file.proofs.Ladder.{body-words, body-uneven}
 use Rattle.file.proofs.refusals.check_body.Statement.{statement}

@@ -1,7 +1,7 @@
 -- `file::refusals::check_frame` meets its contract: each test is a rung of the ladder. Assumes nothing.
 use borrow.Author.Needs.{needs}
 use Rattle.file.specs.Refusal.{frameRefusal}
-use Rattle.file.proofs.Tests.{tests}
+use Rattle.ground.proofs.Tests.{tests}
 use Rattle.file.proofs.refusals.check_frame.Statement.{statement}
 use Rattle.file.proofs.refusals.check_frame.Tie as tie
 

@@ -6,7 +6,8 @@ use native.Mathlib.Omega.{arith}
 use lib.ListN.{length, getD, take, drop, replicate, length-drop}
 use lib.Seq.{ext-getD, getD-take, getD-drop, length-take-le}
 use borrow.Author.Needs.{needs}
-use Rattle.block.specs.Stores.{stores, length-stores, stores-hit}
+use Rattle.ground.proofs.Stores.{length-stores, stores-hit}
+use Rattle.ground.specs.Stores.{stores}
 use Rattle.foldgrebe.proofs.records.get_places.Statement.{statement}
 use Rattle.foldgrebe.proofs.records.get_places.Tie as tie
 

@@ -5,7 +5,7 @@ use native.Mathlib.Numerals.{add-one}
 use native.Mathlib.Omega.{arith}
 use lib.ListN.{length, getD, length-set}
 use borrow.Author.Needs.{needs}
-use Rattle.block.specs.Stores.{stores}
+use Rattle.ground.specs.Stores.{stores}
 use Rattle.foldgrebe.proofs.records.put_places.Statement.{statement}
 use Rattle.foldgrebe.proofs.records.put_places.Tie as tie
 

@@ -4,7 +4,8 @@ use mathlib.Core.List.{List}
 use mathlib.Core.Path.{_≡_, ap, _∙_}
 use native.Mathlib.Omega.{arith}
 use lib.ListN.{length, getD, length-set}
-use Rattle.block.specs.Stores.{stores, length-stores}
+use Rattle.ground.proofs.Stores.{length-stores}
+use Rattle.ground.specs.Stores.{stores}
 use Rattle.foldgrebe.proofs.Filled.{five-stored, record-filled}
 use borrow.Author.Needs.{needs}
 use Rattle.foldgrebe.proofs.records.put_record.Statement.{statement}

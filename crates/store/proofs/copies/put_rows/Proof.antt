@@ -5,7 +5,7 @@ use native.Mathlib.Omega.{arith}
 use native.Mathlib.Nat.{zero-mul, suc-mul}
 use native.Mathlib.Numerals.{add-one}
 use lib.ListN.{length, length-set}
-use Rattle.block.specs.Stores.{stores}
+use Rattle.ground.specs.Stores.{stores}
 use Rattle.store.specs.Inner.{strideWrite}
 use Rattle.store.proofs.copies.put_rows.Statement.{statement}
 use Rattle.store.proofs.copies.put_rows.Tie as tie

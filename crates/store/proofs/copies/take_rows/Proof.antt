@@ -5,7 +5,7 @@ use native.Mathlib.Omega.{arith}
 use native.Mathlib.Nat.{zero-mul, suc-mul}
 use native.Mathlib.Numerals.{add-one}
 use lib.ListN.{length}
-use Rattle.block.specs.Stores.{stores}
+use Rattle.ground.specs.Stores.{stores}
 use Rattle.store.specs.Inner.{strideRead}
 use Rattle.store.proofs.copies.take_rows.Statement.{statement}
 use Rattle.store.proofs.copies.take_rows.Tie as tie

@@ -7,9 +7,11 @@ use native.Mathlib.Nat.{le-refl, mod-le, mul-le-mul, sub-le}
 use native.Mathlib.Omega.{arith}
 use Rattle.block.proofs.Judged.{rows-fit}
 use Rattle.store.specs.Inner.{placeOf}
-use Rattle.store.specs.Refusal.{_then_, visitRefusal}
+use Rattle.ground.specs.Ladder.{_then_}
+use Rattle.store.specs.Refusal.{visitRefusal}
+use Rattle.ground.proofs.Ladder.{then-first}
 use Rattle.store.specs.Shapes.{shapeOf}
-use Rattle.store.proofs.Ladder.{accepted, then-first}
+use Rattle.store.proofs.Ladder.{accepted}
 use Rattle.store.proofs.Located.{is-place, nowhere}
 use Rattle.store.proofs.Shapes.{shape-one, shape-two}
 use Rattle.store.proofs.Index.{first-row, first-alone}

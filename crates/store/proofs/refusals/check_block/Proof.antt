@@ -1,6 +1,6 @@
 -- `store::refusals::check_block` meets its contract. Assumes nothing.
 use borrow.Author.Needs.{needs}
-use Rattle.store.proofs.Tests.{tests}
+use Rattle.ground.proofs.Tests.{tests}
 use Rattle.store.proofs.refusals.check_block.Statement.{statement}
 use Rattle.store.proofs.refusals.check_block.Tie as tie
 

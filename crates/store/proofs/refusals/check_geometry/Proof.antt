@@ -5,7 +5,7 @@ use mathlib.Core.Path.{_≡_}
 use native.Mathlib.Omega.{arith}
 use lib.Dec.{eqb}
 use Rattle.store.proofs.Ladder.{no-blocks}
-use Rattle.store.proofs.Tests.{tests}
+use Rattle.ground.proofs.Tests.{tests}
 use Rattle.store.specs.Refusal.{geometryRefusal}
 use Rattle.store.proofs.refusals.check_geometry.Statement.{statement}
 use Rattle.store.proofs.refusals.check_geometry.Tie as tie

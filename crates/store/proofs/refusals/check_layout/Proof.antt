@@ -7,8 +7,9 @@ use Prim.Native.Nat.{_≤_}
 use Rattle.block.proofs.Judged.{rows-fit}
 use Rattle.store.specs.Shapes.{shapeOf}
 use Rattle.store.specs.Refusal.{layoutRefusal}
-use Rattle.store.proofs.Tests.{tests}
-use Rattle.store.proofs.Ladder.{then-first, geometry}
+use Rattle.ground.proofs.Tests.{tests}
+use Rattle.ground.proofs.Ladder.{then-first}
+use Rattle.store.proofs.Ladder.{geometry}
 use Rattle.store.proofs.refusals.check_layout.Statement.{statement}
 use Rattle.store.proofs.refusals.check_layout.Tie as tie
 

@@ -1,5 +1,5 @@
 -- `store::refusals::rows_of` meets its contract. Assumes nothing.
-use Rattle.store.proofs.Tests.{tests}
+use Rattle.ground.proofs.Tests.{tests}
 use Rattle.store.specs.Shapes.{shapeOf}
 use Rattle.store.proofs.refusals.rows_of.Statement.{statement}
 use Rattle.store.proofs.refusals.rows_of.Tie as tie

@@ -77,9 +77,3 @@ digit-one i w e = bit-shift i w ∙ ap set? e
 
 pub digit-zero : (i w : ℕ) → (w / 2 ^ i % 2 ≡ 1 → ⊥) → bit i w ≡ false
 digit-zero i w ne = let z : w / 2 ^ i % 2 ≡ 0 = omega arith in bit-shift i w ∙ ap set? z
-
--- ---- two tests that hold together
-
-pub both : (a b : Bool) → a && b ≡ true → (a ≡ true) × (b ≡ true)
-both true b e = (refl, e)
-both false b e = absurd (false≢true e)

@@ -1,0 +1,31 @@
+// The rows and the data words of each shape, said once.
+ghost use mathlib.Core.Path.{_≡_};
+ghost use Rattle.block.specs.Shape.{before, rows, words};
+use super::Shape;
+
+// How many rows stand before the last.
+pub(crate) fn rows_before(shape: Shape) -> usize
+    ensures { λ r. ⌜ r ≡ before shape ⌝ }
+{
+    match shape {
+        Shape::One => 15,
+        Shape::Two => 71,
+    }
+}
+
+// How many rows a block has.
+pub fn rows(shape: Shape) -> usize
+    ensures { λ r. ⌜ r ≡ rows shape ⌝ }
+{
+    rows_before(shape) + 1
+}
+
+// How many data words a block holds.
+pub fn words(shape: Shape) -> usize
+    ensures { λ r. ⌜ r ≡ words shape ⌝ }
+{
+    match shape {
+        Shape::One => 11,
+        Shape::Two => 64,
+    }
+}
