@@ -10,3 +10,4 @@ pub mod Data
 pub mod Encoding
 pub mod ValidBlocks
 pub mod ByWords
+pub mod Verdicts

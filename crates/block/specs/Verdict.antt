@@ -2,7 +2,7 @@
 -- The verdicts are numbered 1 clean, 2 mended, 3 lost. Assumes nothing.
 use Prim.Native.Nat.{ℕ, zero, suc, _+_}
 use mathlib.Core.Bool.{Bool, true, false, _&&_}
-use mathlib.Core.List.{List}
+use mathlib.Core.List.{List, [], _∷_}
 use lib.Dec.{leb}
 use lib.ListN.{length, drop}
 use Rattle.block.specs.declared.Shape.{Shape}
@@ -20,6 +20,13 @@ abbrev pub verdictCount : Verdict → ℕ
 verdictCount Clean = 0
 verdictCount (Mended m) = m
 verdictCount (Lost m) = m
+
+-- a verdict as words: its number, and its count; where there is no verdict, as many zeros
+abbrev pub verdictWords : Verdict → List ℕ
+verdictWords verdict = verdictNumber verdict ∷ verdictCount verdict ∷ []
+
+abbrev pub noVerdict : List ℕ
+noVerdict = 0 ∷ 0 ∷ []
 
 -- by the lanes lost and the bits changed
 abbrev pub verdict : ℕ → ℕ → Verdict

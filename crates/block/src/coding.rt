@@ -6,8 +6,8 @@ ghost use Rattle.ground.specs.Stores.{stores};
 ghost use Rattle.block.specs.Block.{dataBlock, validBlock, dataInto};
 ghost use Rattle.block.specs.Inner.{Listed, Rising, copiedInto, xorAll, withChecks};
 use super::Shape;
-use super::sums::lane_sums;
 use super::shapes::rows_before;
+use super::sums::lane_sums;
 use super::tables::*;
 use ground::least;
 

@@ -8,8 +8,8 @@ ghost use Rattle.block.specs.Verdict.{verdictOf};
 ghost use Rattle.block.specs.Inner.{anyOf, aboveOf, sumAt, rowNamed, flippedIn};
 use super::Shape;
 use super::Verdict;
-use super::sums::lane_sums;
 use super::shapes::rows_before;
+use super::sums::lane_sums;
 
 // The lanes whose sum is not 0.
 fn any(digits: &[u32; 7]) -> u32

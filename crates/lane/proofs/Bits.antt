@@ -18,6 +18,11 @@ pub ⊕-one : (b : Bool) → b ⊕ true ≡ not b
 ⊕-one false = refl
 ⊕-one true = refl
 
+-- a bit counts as one at most
+pub pick-one : (b : Bool) → pick b 1 ≤ 1
+pick-one true = omega arith
+pick-one false = omega arith
+
 module _ (op : ℕ → ℕ → ℕ) (g : Bool → Bool → Bool)
     (shr : (a b k : ℕ) → op a b / 2 ^ k ≡ op (a / 2 ^ k) (b / 2 ^ k))
     (low : (a b k : ℕ) → op a b % 2 ^ k ≡ op (a % 2 ^ k) (b % 2 ^ k))

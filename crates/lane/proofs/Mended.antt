@@ -10,7 +10,7 @@ use borrow.Author.Tests.{leb-true}
 use Rattle.lane.specs.Bit.{bit, _⊕_, pick}
 use Rattle.lane.specs.Lane.{Lane, sum, count, odd, Valid, diff, apart}
 use Rattle.lane.specs.Decision.{Decision, unchanged, lost, flipped, decision, decide, lost?, changes, mended, Right}
-use Rattle.lane.proofs.Bits.{⊕-zero, bit-zero}
+use Rattle.lane.proofs.Bits.{⊕-zero, bit-zero, pick-one}
 use Rattle.lane.proofs.Linear.{count-same, valid-same}
 use Rattle.lane.proofs.Distance.{never-two}
 use Rattle.lane.proofs.Decided.{decided, only-within}
@@ -66,12 +66,8 @@ module _ (m : ℕ) (f : Lane) where
   pub mended-count : lost? (decide m f) ≡ false → apart m f (mended m f) ≡ pick (odd (suc m) f) 1
   mended-count ok = changed (decide m f) ∙ by-case (odd (suc m) f) (sum m f) ok
 
-  at-most-one : (b : Bool) → pick b 1 ≤ 1
-  at-most-one true = omega arith
-  at-most-one false = omega arith
-
   pub mended-near : lost? (decide m f) ≡ false → apart m f (mended m f) ≤ 1
-  mended-near ok = rw (mended-count ok) (at-most-one (odd (suc m) f))
+  mended-near ok = rw (mended-count ok) (pick-one (odd (suc m) f))
 
   -- a lost lane is left as it was
   left : (d : Decision) → lost? d ≡ true → (p : ℕ) → changes d p ≡ false
