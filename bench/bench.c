@@ -6,11 +6,10 @@
 #include "foldgrebe.h"
 #include "mark.h"
 
-enum { GROUPS = 3, MOST_WORDS = 72 * 16 * GROUPS, MOST_DATA = 64, REPORT = 2 + 2 * FOLDGREBE_VERDICT_WORDS };
-enum { CLEAN = 1, MENDED, LOST };
+enum { GROUPS = 3, MOST_WORDS = 72 * 16 * GROUPS, MOST_DATA = 64 };
 
 static uint32_t image[MOST_WORDS], data[MOST_DATA], buffer[MOST_DATA], record[FOLDGREBE_RECORD_WORDS];
-static uint32_t verdict[FOLDGREBE_VERDICT_WORDS], report[REPORT], place[1];
+static uint32_t verdict[FOLDGREBE_VERDICT_WORDS], report[FOLDGREBE_REPORT_WORDS], place[1];
 static uint32_t shape, s, block, rows, data_words;
 static size_t words;
 static long tag;
@@ -44,18 +43,18 @@ static void measure_visit(const char *call, uint32_t says, uint32_t count)
 {
     uint32_t number;
     COUNTED(next_case(call), number = foldgrebe_visit(image, words, shape, s, GROUPS, block, verdict));
-    expect(number == 0 && verdict[0] == says && verdict[1] == count, call);
+    expect(number == 0 && verdict[FOLDGREBE_VERDICT_NUMBER] == says && verdict[FOLDGREBE_VERDICT_COUNT] == count, call);
 }
 
 static void measure_visits(void)
 {
-    measure_visit("visit-clean", CLEAN, 0);
+    measure_visit("visit-clean", FOLDGREBE_CLEAN, 0);
     flip(7, 11);
-    measure_visit("visit-one-flip", MENDED, 1);
+    measure_visit("visit-one-flip", FOLDGREBE_MENDED, 1);
     for (uint32_t lane = 0; lane < 32; lane++) flip(lane % rows + 1, lane);
-    measure_visit("visit-32-flips", MENDED, 32);
+    measure_visit("visit-32-flips", FOLDGREBE_MENDED, 32);
     flip(3, 9), flip(5, 9);
-    measure_visit("visit-lost", LOST, 1);
+    measure_visit("visit-lost", FOLDGREBE_LOST, 1);
     flip(3, 9), flip(5, 9);
 }
 
@@ -63,14 +62,16 @@ static void measure_read(void)
 {
     uint32_t number;
     COUNTED(next_case("read-clean"), number = foldgrebe_read(image, words, shape, s, GROUPS, block, buffer, data_words, verdict));
-    expect(number == 0 && verdict[0] == CLEAN && memcmp(buffer, data, data_words * sizeof *data) == 0, "read");
+    expect(number == 0 && verdict[FOLDGREBE_VERDICT_NUMBER] == FOLDGREBE_CLEAN, "read");
+    expect(memcmp(buffer, data, data_words * sizeof *data) == 0, "read");
 }
 
 static void measure_turn(const char *call, uint32_t asks)
 {
     uint32_t number;
     COUNTED(next_case(call), number = foldgrebe_turn(record, image, words, report));
-    expect(number == 0 && report[1] == CLEAN && report[4] == (asks ? CLEAN : 0), call);
+    expect(number == 0 && report[FOLDGREBE_REPORT_VERDICT] == FOLDGREBE_CLEAN, call);
+    expect(report[FOLDGREBE_REPORT_ASK_VERDICT] == (asks ? FOLDGREBE_CLEAN : 0), call);
 }
 
 static void measure_turns(void)

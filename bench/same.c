@@ -5,9 +5,7 @@
 #include <string.h>
 #include "foldgrebe.h"
 
-enum { MOST_ROWS = 72, MOST_DATA = 64, MOST_DIGITS = 7, MOST_BLOCKS = 4096, PLACES = 16 };
-enum { CLEAN = 1, MENDED = 2, LOST = 3 };
-enum { SHAPE, INTERLEAVE, GROUPS, NEXT, WAITING, PLACE };   /* where the record has each */
+enum { MOST_ROWS = 72, MOST_DATA = 64, MOST_DIGITS = 7, MOST_BLOCKS = 4096 };
 
 #define INLINE static inline __attribute__((always_inline))
 
@@ -54,6 +52,8 @@ typedef struct { uint32_t row[MOST_ROWS]; } gathered;
 typedef struct { uint32_t digit[MOST_DIGITS], odd; } findings;
 
 typedef struct { uint32_t verdict, count; } outcome;
+
+INLINE void put_verdict(uint32_t *words, outcome o) { words[FOLDGREBE_VERDICT_NUMBER] = o.verdict, words[FOLDGREBE_VERDICT_COUNT] = o.count; }
 
 INLINE unsigned rows_of(uint32_t shape) { return shape == 1 ? 16 : 72; }
 INLINE unsigned data_of(uint32_t shape) { return shape == 1 ? 11 : 64; }
@@ -159,10 +159,10 @@ INLINE void mend(const findings *f, uint32_t *at, size_t stride, uint32_t shape)
 
 INLINE outcome decide(const findings *f, uint32_t shape)
 {
-    if ((any_digit(f, shape) | f->odd) == 0) return (outcome){ CLEAN, 0 };
+    if ((any_digit(f, shape) | f->odd) == 0) return (outcome){ FOLDGREBE_CLEAN, 0 };
     uint32_t lost = lost_lanes(f, shape);
-    if (lost) return (outcome){ LOST, ones(lost) };
-    return (outcome){ MENDED, ones(f->odd) };
+    if (lost) return (outcome){ FOLDGREBE_LOST, ones(lost) };
+    return (outcome){ FOLDGREBE_MENDED, ones(f->odd) };
 }
 
 INLINE outcome visit_as(uint32_t *at, uint32_t s, uint32_t shape)
@@ -173,7 +173,7 @@ INLINE outcome visit_as(uint32_t *at, uint32_t s, uint32_t shape)
     if (!in_place) gather(&b, at, s, rows_of(shape));
     findings f = look(in_place ? at : b.row, shape);
     outcome o = decide(&f, shape);
-    if (o.verdict == MENDED) mend(&f, at, s, shape);
+    if (o.verdict == FOLDGREBE_MENDED) mend(&f, at, s, shape);
     return o;
 }
 
@@ -189,8 +189,8 @@ INLINE outcome read_as(const uint32_t *at, uint32_t s, uint32_t shape, uint32_t 
     gather(&b, at, s, rows_of(shape));
     findings f = look(b.row, shape);
     outcome o = decide(&f, shape);
-    if (o.verdict == LOST) return o;
-    if (o.verdict == MENDED) mend(&f, b.row, 1, shape);
+    if (o.verdict == FOLDGREBE_LOST) return o;
+    if (o.verdict == FOLDGREBE_MENDED) mend(&f, b.row, 1, shape);
 #pragma GCC unroll 64
     for (unsigned i = 0; i < data_of(shape); i++) buffer[i] = b.row[data_rows[i] - 1];
     return o;
@@ -249,14 +249,14 @@ static uint32_t refuse_block(size_t words, uint32_t shape, uint32_t s, uint32_t 
 
 static uint32_t refuse_record(const uint32_t *record)
 {
-    uint32_t n = record[INTERLEAVE] * record[GROUPS], waiting = record[WAITING];
-    const uint32_t *place = record + PLACE;
-    if (record[NEXT] >= n || waiting > PLACES) return 5;
+    uint32_t n = record[FOLDGREBE_RECORD_INTERLEAVE] * record[FOLDGREBE_RECORD_GROUPS], waiting = record[FOLDGREBE_RECORD_WAITING];
+    const uint32_t *place = record + FOLDGREBE_RECORD_PLACES;
+    if (record[FOLDGREBE_RECORD_NEXT] >= n || waiting > FOLDGREBE_PLACES) return 5;
     for (unsigned i = 0; i < waiting; i++) {
         if (place[i] >= n) return 5;
         for (unsigned j = 0; j < i; j++) if (place[j] == place[i]) return 5;
     }
-    for (unsigned i = waiting; i < PLACES; i++) if (place[i]) return 5;
+    for (unsigned i = waiting; i < FOLDGREBE_PLACES; i++) if (place[i]) return 5;
     return 0;
 }
 
@@ -267,7 +267,7 @@ uint32_t foldgrebe_format(uint32_t *image, size_t words, uint32_t shape, uint32_
     memset(record, 0, FOLDGREBE_RECORD_WORDS * sizeof *record);
     if (number) return number;
     memset(image, 0, words * sizeof *image);
-    record[SHAPE] = shape, record[INTERLEAVE] = s, record[GROUPS] = g;
+    record[FOLDGREBE_RECORD_SHAPE] = shape, record[FOLDGREBE_RECORD_INTERLEAVE] = s, record[FOLDGREBE_RECORD_GROUPS] = g;
     return 0;
 }
 
@@ -292,7 +292,7 @@ uint32_t foldgrebe_read(const uint32_t *image, size_t words, uint32_t shape, uin
         const uint32_t *at = image + first_row(shape, s, block);
         o = shape == 1 ? read_as(at, s, 1, buffer) : read_as(at, s, 2, buffer);
     }
-    verdict[0] = o.verdict, verdict[1] = o.count;
+    put_verdict(verdict, o);
     return number;
 }
 
@@ -302,50 +302,50 @@ uint32_t foldgrebe_visit(uint32_t *image, size_t words, uint32_t shape, uint32_t
     uint32_t number = refuse_block(words, shape, s, g, block);
     outcome o = { 0, 0 };
     if (number == 0) o = visit(image + first_row(shape, s, block), s, shape);
-    verdict[0] = o.verdict, verdict[1] = o.count;
+    put_verdict(verdict, o);
     return number;
 }
 
 uint32_t foldgrebe_ask(uint32_t record[FOLDGREBE_RECORD_WORDS], uint32_t block, uint32_t place[1])
 {
-    uint32_t number = refuse_layout(record[SHAPE], record[INTERLEAVE], record[GROUPS]);
+    uint32_t number = refuse_layout(record[FOLDGREBE_RECORD_SHAPE], record[FOLDGREBE_RECORD_INTERLEAVE], record[FOLDGREBE_RECORD_GROUPS]);
     *place = 0;
     if (number == 0) number = refuse_record(record);
     if (number) return number;
-    if (block >= record[INTERLEAVE] * record[GROUPS]) return 6;
-    uint32_t waiting = record[WAITING];
+    if (block >= record[FOLDGREBE_RECORD_INTERLEAVE] * record[FOLDGREBE_RECORD_GROUPS]) return 6;
+    uint32_t waiting = record[FOLDGREBE_RECORD_WAITING];
     for (uint32_t i = 0; i < waiting; i++)
-        if (record[PLACE + i] == block) { *place = i + 1; return 0; }
-    if (waiting == PLACES) return 8;
-    record[PLACE + waiting] = block;
-    record[WAITING] = *place = waiting + 1;
+        if (record[FOLDGREBE_RECORD_PLACES + i] == block) { *place = i + 1; return 0; }
+    if (waiting == FOLDGREBE_PLACES) return 8;
+    record[FOLDGREBE_RECORD_PLACES + waiting] = block;
+    record[FOLDGREBE_RECORD_WAITING] = *place = waiting + 1;
     return 0;
 }
 
 /* The block at place 1 leaves the list, and the others move up. */
 static void serve(uint32_t *record)
 {
-    memmove(record + PLACE, record + PLACE + 1, (PLACES - 1) * sizeof *record);
-    record[PLACE + PLACES - 1] = 0;
-    record[WAITING]--;
+    memmove(record + FOLDGREBE_RECORD_PLACES, record + FOLDGREBE_RECORD_PLACES + 1, (FOLDGREBE_PLACES - 1) * sizeof *record);
+    record[FOLDGREBE_RECORD_PLACES + FOLDGREBE_PLACES - 1] = 0;
+    record[FOLDGREBE_RECORD_WAITING]--;
 }
 
 uint32_t foldgrebe_turn(uint32_t record[FOLDGREBE_RECORD_WORDS], uint32_t *image, size_t words,
-                        uint32_t report[2 + 2 * FOLDGREBE_VERDICT_WORDS])
+                        uint32_t report[FOLDGREBE_REPORT_WORDS])
 {
-    uint32_t shape = record[SHAPE], s = record[INTERLEAVE], g = record[GROUPS];
+    uint32_t shape = record[FOLDGREBE_RECORD_SHAPE], s = record[FOLDGREBE_RECORD_INTERLEAVE], g = record[FOLDGREBE_RECORD_GROUPS];
     uint32_t number = refuse_image(words, shape, s, g);
-    memset(report, 0, 6 * sizeof *report);
+    memset(report, 0, FOLDGREBE_REPORT_WORDS * sizeof *report);
     if (number == 0) number = refuse_record(record);
     if (number) return number;
-    uint32_t block = record[NEXT];
+    uint32_t block = record[FOLDGREBE_RECORD_NEXT];
     outcome o = visit(image + first_row(shape, s, block), s, shape);
-    report[0] = block, report[1] = o.verdict, report[2] = o.count;
-    record[NEXT] = block + 1 == s * g ? 0 : block + 1;
-    if (record[WAITING] == 0) return 0;
-    uint32_t asked = record[PLACE];
+    report[FOLDGREBE_REPORT_BLOCK] = block, put_verdict(report + FOLDGREBE_REPORT_VERDICT, o);
+    record[FOLDGREBE_RECORD_NEXT] = block + 1 == s * g ? 0 : block + 1;
+    if (record[FOLDGREBE_RECORD_WAITING] == 0) return 0;
+    uint32_t asked = record[FOLDGREBE_RECORD_PLACES];
     o = visit(image + first_row(shape, s, asked), s, shape);
-    report[3] = asked, report[4] = o.verdict, report[5] = o.count;
+    report[FOLDGREBE_REPORT_ASK_BLOCK] = asked, put_verdict(report + FOLDGREBE_REPORT_ASK_VERDICT, o);
     serve(record);
     return 0;
 }

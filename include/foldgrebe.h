@@ -33,10 +33,34 @@
 extern "C" {
 #endif
 
-#define FOLDGREBE_RECORD_WORDS 21   /* shape, s, G, next, waiting, then the 16 places */
-#define FOLDGREBE_VERDICT_WORDS 2   /* verdict, count */
+/* A verdict's words, which a visit and a read give: what was found, and how many bits or lanes. */
+#define FOLDGREBE_VERDICT_NUMBER 0
+#define FOLDGREBE_VERDICT_COUNT  1
+#define FOLDGREBE_VERDICT_WORDS  2
 
-/* Verdicts: 1 clean, count 0; 2 mended, count = bits changed, from 1 to 32; 3 lost, count = lanes lost; 0 no verdict. */
+/* A verdict's number. 0 is no verdict: the call was refused, or a turn had no ask to serve. */
+#define FOLDGREBE_CLEAN  1   /* count 0 */
+#define FOLDGREBE_MENDED 2   /* count: the bits changed, from 1 to 32 */
+#define FOLDGREBE_LOST   3   /* count: the lanes lost, from 1 to 32 */
+
+/* A turn's report: the patrol's block and its verdict, then the block asked for and its verdict. */
+#define FOLDGREBE_REPORT_BLOCK       0
+#define FOLDGREBE_REPORT_VERDICT     1   /* where that block's verdict begins, so also the place of its number */
+#define FOLDGREBE_REPORT_COUNT       (FOLDGREBE_REPORT_VERDICT + FOLDGREBE_VERDICT_COUNT)
+#define FOLDGREBE_REPORT_ASK_BLOCK   (FOLDGREBE_REPORT_VERDICT + FOLDGREBE_VERDICT_WORDS)
+#define FOLDGREBE_REPORT_ASK_VERDICT (FOLDGREBE_REPORT_ASK_BLOCK + 1)
+#define FOLDGREBE_REPORT_ASK_COUNT   (FOLDGREBE_REPORT_ASK_VERDICT + FOLDGREBE_VERDICT_COUNT)
+#define FOLDGREBE_REPORT_WORDS       (FOLDGREBE_REPORT_ASK_VERDICT + FOLDGREBE_VERDICT_WORDS)
+
+/* The patrol's record, which format makes and ask and turn move on; the caller keeps it and need not look into it. */
+#define FOLDGREBE_RECORD_SHAPE      0
+#define FOLDGREBE_RECORD_INTERLEAVE 1    /* s */
+#define FOLDGREBE_RECORD_GROUPS     2    /* g */
+#define FOLDGREBE_RECORD_NEXT       3    /* the block that the next turn visits */
+#define FOLDGREBE_RECORD_WAITING    4    /* how many blocks wait */
+#define FOLDGREBE_RECORD_PLACES     5    /* the block at place 1; the other places follow, those not used being 0 */
+#define FOLDGREBE_PLACES            16   /* how many blocks can wait */
+#define FOLDGREBE_RECORD_WORDS      (FOLDGREBE_RECORD_PLACES + FOLDGREBE_PLACES)
 
 /* Sets every word of the image to zero, which is zero data in every block, and gives a new record. Refuses 1, 2, 3, 4. */
 uint32_t foldgrebe_format(uint32_t *image, size_t words, uint32_t shape, uint32_t s, uint32_t g, uint32_t record[FOLDGREBE_RECORD_WORDS]);
@@ -56,8 +80,8 @@ uint32_t foldgrebe_visit (uint32_t *image, size_t words, uint32_t shape, uint32_
 uint32_t foldgrebe_ask   (uint32_t record[FOLDGREBE_RECORD_WORDS], uint32_t block, uint32_t place[1]);
 
 /* Visits the next block, then the block at place 1 if one waits, and moves the record on. The report has the block, its
-   verdict and count, then the same of the block asked for, or three zeros where none waited. Refuses 1, 2, 3, 4, 5. */
-uint32_t foldgrebe_turn  (uint32_t record[FOLDGREBE_RECORD_WORDS], uint32_t *image, size_t words, uint32_t report[2 + 2 * FOLDGREBE_VERDICT_WORDS]); /* block, verdict, count, ask's block, verdict, count */
+   verdict and count, then the same of the block asked for, or zeros where none waited. Refuses 1, 2, 3, 4, 5. */
+uint32_t foldgrebe_turn  (uint32_t record[FOLDGREBE_RECORD_WORDS], uint32_t *image, size_t words, uint32_t report[FOLDGREBE_REPORT_WORDS]);
 
 #ifdef __cplusplus
 }

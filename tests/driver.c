@@ -6,7 +6,7 @@
 #include <sys/mman.h>
 #include "foldgrebe.h"
 
-enum { GUARDS = 64, MOST_WORDS = 72 * 4096, MOST_LIST = 80, MOST_CHANGES = 144, REPORT = 6 };
+enum { GUARDS = 64, MOST_WORDS = 72 * 4096, MOST_LIST = 80, MOST_CHANGES = 144 };
 static const uint32_t STALE = 0xdeadbeef;   /* what outputs hold before a call */
 
 /* Words that are lent, with guard words before and behind. */
@@ -138,8 +138,8 @@ static void flip(void)
 
 static void stale_outputs(void)
 {
-    for (unsigned i = 0; i < 2; i++) verdict.words[i] = STALE;
-    for (unsigned i = 0; i < REPORT; i++) report.words[i] = STALE;
+    for (unsigned i = 0; i < FOLDGREBE_VERDICT_WORDS; i++) verdict.words[i] = STALE;
+    for (unsigned i = 0; i < FOLDGREBE_REPORT_WORDS; i++) report.words[i] = STALE;
     place.words[0] = STALE;
 }
 
@@ -185,7 +185,7 @@ static void read_block(void)
     first = (uint32_t)number();
     for (size_t i = 0; i < list.length; i++) list.words[i] = first + (uint32_t)i * 0x01010101u;
     say_number(foldgrebe_read(image.words, l.words, l.shape, l.s, l.g, block, list.words, list.length, verdict.words));
-    say_words(verdict.words, 2);
+    say_words(verdict.words, FOLDGREBE_VERDICT_WORDS);
     say_words(list.words, list.length);
 }
 
@@ -193,7 +193,7 @@ static void visit(void)
 {
     layout l = read_layout();
     say_number(foldgrebe_visit(image.words, l.words, l.shape, l.s, l.g, (uint32_t)number(), verdict.words));
-    say_words(verdict.words, 2);
+    say_words(verdict.words, FOLDGREBE_VERDICT_WORDS);
 }
 
 static void ask(void)
@@ -206,7 +206,7 @@ static void ask(void)
 static void turn(void)
 {
     say_number(foldgrebe_turn(record.words, image.words, number(), report.words));
-    say_words(report.words, REPORT);
+    say_words(report.words, FOLDGREBE_REPORT_WORDS);
     say_words(record.words, FOLDGREBE_RECORD_WORDS);
 }
 
@@ -256,7 +256,7 @@ int main(int argc, char **argv)
     make_room(&list, "list", MOST_LIST);
     make_room(&verdict, "verdict", FOLDGREBE_VERDICT_WORDS);
     make_room(&place, "place", 1);
-    make_room(&report, "report", REPORT);
+    make_room(&report, "report", FOLDGREBE_REPORT_WORDS);
     shadow = calloc(MOST_WORDS, sizeof *shadow);
     if (!shadow) die("no memory");
     while (getline(&line, &room, stdin) > 0) {

@@ -4,17 +4,32 @@
 say() { printf '%s\n' "$*"; }
 die() { printf '%s: %s\n' "${0##*/}" "$*" >&2; exit 2; }
 
-# install_package PACKAGE: by apt, which is asked for news once.
-install_package() {
-    [ "$(id -u)" = 0 ] || die "the package $1 is missing: install it"
-    say "installing $1"
-    [ -n "${apt_updated:-}" ] || apt-get -qq update >/dev/null || die "apt-get update failed"
-    apt_updated=1
-    DEBIAN_FRONTEND=noninteractive apt-get -qq install -y --no-install-recommends "$1" >/dev/null || die "cannot install $1"
+install='' missing=''
+
+# want PACKAGE: notes it as missing.
+want() { case " $missing " in *" $1 "*) ;; *) missing="$missing $1" ;; esac; }
+
+# need COMMAND PACKAGE: wants a package where its command is missing.
+need() { command -v "$1" >/dev/null 2>&1 || want "$2"; }
+
+# A container of a CI is thrown away after the run; on any other host the user has to say --install.
+may_install() {
+    [ -z "$install" ] || return 0
+    [ -n "${CI:-}" ] && [ "$(id -u)" = 0 ] || return 1
+    [ -e /.dockerenv ] || [ -e /run/.containerenv ] || [ -n "${container:-}" ] || grep -qsE 'docker|containerd|kubepods|libpod|lxc' /proc/1/cgroup
 }
 
-# need COMMAND PACKAGE: installs a package where its command is missing.
-need() { command -v "$1" >/dev/null 2>&1 || install_package "$2"; }
+# Installs what is wanted, or says how and stops.
+install_missing() {
+    [ -n "$missing" ] || return 0
+    line="apt-get update && apt-get install -y --no-install-recommends$missing"
+    may_install || die "missing:$missing. $0 --install installs it, as root, by
+    $line"
+    [ "$(id -u)" = 0 ] || die "missing:$missing. Only root can install it, by
+    $line"
+    say "installing$missing, by $line" >&2
+    DEBIAN_FRONTEND=noninteractive sh -c "$line" >/dev/null || die "cannot install$missing"
+}
 
 # A C compiler for x86-64, and what runs its programs.
 need_c() {
@@ -22,11 +37,11 @@ need_c() {
     case $(uname -m) in
     x86_64)
         cross='' run_x86=''
-        [ -e /usr/include/stdio.h ] || install_package libc6-dev ;;
+        [ -e /usr/include/stdio.h ] || want libc6-dev ;;
     aarch64)
         cross=x86_64-linux-gnu- run_x86=qemu-x86_64
         need x86_64-linux-gnu-gcc gcc-x86-64-linux-gnu
-        [ -e /usr/x86_64-linux-gnu/lib/libc.a ] || install_package libc6-dev-amd64-cross
+        [ -e /usr/x86_64-linux-gnu/lib/libc.a ] || want libc6-dev-amd64-cross
         need qemu-x86_64 qemu-user ;;
     *) die "x86-64 or aarch64 is wanted, not $(uname -m)" ;;
     esac

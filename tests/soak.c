@@ -8,7 +8,7 @@
 #include <string.h>
 #include "foldgrebe.h"
 
-enum { LANES = 32, MOST_BLOCKS = 600, MOST_ROWS = 72, MOST_DATA = 64, PLACES = 16, GUARDS = 64 };
+enum { LANES = 32, MOST_BLOCKS = 600, MOST_ROWS = 72, MOST_DATA = 64, GUARDS = 64 };
 static const uint32_t GUARD = 0x6b8f21d3;
 
 static uint32_t shape, s, g, n, rows, data_words;             /* the store's layout */
@@ -19,7 +19,7 @@ static uint32_t record[FOLDGREBE_RECORD_WORDS];
 static uint32_t meant[MOST_BLOCKS][MOST_DATA];                /* what was last written */
 static uint32_t flipped[MOST_BLOCKS];                         /* lanes flipped since the block was last visited or written */
 static uint64_t last_flip[MOST_BLOCKS][LANES];                /* the turn before which a lane was last flipped, from 1; 0 never */
-static uint32_t waiting[PLACES], waits;                       /* the asks, as their places told */
+static uint32_t waiting[FOLDGREBE_PLACES], waits;             /* the asks, as their places told */
 static uint64_t turns, next, flips, reads, writes, asks;
 static uint64_t random_state;
 static uint64_t seed;
@@ -58,16 +58,17 @@ static void rain(uint32_t drops)
 }
 
 /* A verdict must be clean, or mended by as many bits as lanes were flipped. */
-static void expect_verdict(uint32_t block, uint32_t verdict, uint32_t count)
+static void expect_verdict(uint32_t block, const uint32_t verdict[FOLDGREBE_VERDICT_WORDS])
 {
-    expect(verdict == (flipped[block] ? 2 : 1) && count == ones(flipped[block]), "wrong verdict or count", block);
+    uint32_t says = flipped[block] ? FOLDGREBE_MENDED : FOLDGREBE_CLEAN, count = ones(flipped[block]);
+    expect(verdict[FOLDGREBE_VERDICT_NUMBER] == says && verdict[FOLDGREBE_VERDICT_COUNT] == count, "wrong verdict or count", block);
 }
 
 static void read_one(void)
 {
     uint32_t block = below(n), buffer[MOST_DATA], verdict[FOLDGREBE_VERDICT_WORDS];
     expect(foldgrebe_read(image, words, shape, s, g, block, buffer, data_words, verdict) == 0, "read refused", block);
-    expect_verdict(block, verdict[0], verdict[1]);
+    expect_verdict(block, verdict);
     expect(memcmp(buffer, meant[block], data_words * sizeof *buffer) == 0, "read is not what was written", block);
     reads++;
 }
@@ -92,24 +93,32 @@ static void ask_one(void)
     uint32_t block = below(n), place[1], known = place_of(block);
     uint32_t number = foldgrebe_ask(record, block, place);
     asks++;
-    if (!known && waits == PLACES) { expect(number == 8 && place[0] == 0, "ask beyond 16 not refused", block); return; }
+    if (!known && waits == FOLDGREBE_PLACES) { expect(number == 8 && place[0] == 0, "ask beyond the last place not refused", block); return; }
     if (!known) waiting[waits++] = block;
     expect(number == 0 && place[0] == (known ? known : waits), "ask got a wrong place", block);
 }
 
+/* Where no ask was served, the report is zero from the ask's block on. */
+static int served_none(const uint32_t report[FOLDGREBE_REPORT_WORDS])
+{
+    for (unsigned i = FOLDGREBE_REPORT_ASK_BLOCK; i < FOLDGREBE_REPORT_WORDS; i++) if (report[i]) return 0;
+    return 1;
+}
+
 static void turn_one(void)
 {
-    uint32_t r[2 + 2 * FOLDGREBE_VERDICT_WORDS];
-    expect(foldgrebe_turn(record, image, words, r) == 0, "turn refused", (uint32_t)next);
-    expect(r[0] == next, "turn visited another block than the next", r[0]);
-    expect_verdict(r[0], r[1], r[2]);
-    flipped[r[0]] = 0;
+    uint32_t report[FOLDGREBE_REPORT_WORDS];
+    expect(foldgrebe_turn(record, image, words, report) == 0, "turn refused", (uint32_t)next);
+    uint32_t block = report[FOLDGREBE_REPORT_BLOCK], ask_block = report[FOLDGREBE_REPORT_ASK_BLOCK];
+    expect(block == next, "turn visited another block than the next", block);
+    expect_verdict(block, report + FOLDGREBE_REPORT_VERDICT);
+    flipped[block] = 0;
     next = (next + 1) % n;
     turns++;
-    if (waits == 0) { expect(!r[3] && !r[4] && !r[5], "turn served an ask that nobody made", r[3]); return; }
-    expect(r[3] == waiting[0], "turn served another block than place 1", r[3]);
-    expect_verdict(r[3], r[4], r[5]);
-    flipped[r[3]] = 0;
+    if (waits == 0) { expect(served_none(report), "turn served an ask that nobody made", ask_block); return; }
+    expect(ask_block == waiting[0], "turn served another block than place 1", ask_block);
+    expect_verdict(ask_block, report + FOLDGREBE_REPORT_ASK_VERDICT);
+    flipped[ask_block] = 0;
     memmove(waiting, waiting + 1, --waits * sizeof *waiting);
 }
 

@@ -6,6 +6,8 @@
 
 enum { MOST = 1024, FORMAT = 1, WRITE, READ, VISIT, ASK, TURN };
 enum { OPCODE, SHAPE, S, G, BLOCK, IMAGE_WORDS, LIST_WORDS, RECORD_WORDS, LENT };
+/* An answer: the number, a report (a verdict at its place there), and the place of an ask. */
+enum { NUMBER, REPORT, VERDICT = REPORT + FOLDGREBE_REPORT_VERDICT, PLACE = REPORT + FOLDGREBE_REPORT_WORDS, ANSWER_WORDS };
 
 static uint32_t vector[MOST];
 
@@ -17,19 +19,17 @@ static uint32_t word(void)
     return (uint32_t)b[0] << 24 | (uint32_t)b[1] << 16 | (uint32_t)b[2] << 8 | b[3];
 }
 
-/* The number, then block, verdict, count twice over, then the place. */
-static void run(const uint32_t *v, uint32_t *image, uint32_t *list, uint32_t *record, uint32_t answer[8])
+static uint32_t run(const uint32_t *v, uint32_t *image, uint32_t *list, uint32_t *record, uint32_t answer[ANSWER_WORDS])
 {
     size_t words = v[IMAGE_WORDS], length = v[LIST_WORDS];
-    memset(answer, 0, 8 * sizeof *answer);
     switch (v[OPCODE]) {
-    case FORMAT: answer[0] = foldgrebe_format(image, words, v[SHAPE], v[S], v[G], record); break;
-    case WRITE: answer[0] = foldgrebe_write(image, words, v[SHAPE], v[S], v[G], v[BLOCK], list, length); break;
-    case READ: answer[0] = foldgrebe_read(image, words, v[SHAPE], v[S], v[G], v[BLOCK], list, length, answer + 2); break;
-    case VISIT: answer[0] = foldgrebe_visit(image, words, v[SHAPE], v[S], v[G], v[BLOCK], answer + 2); break;
-    case ASK: answer[0] = foldgrebe_ask(record, v[BLOCK], answer + 7); break;
-    case TURN: answer[0] = foldgrebe_turn(record, image, words, answer + 1); break;
-    default: answer[0] = UINT32_MAX;
+    case FORMAT: return foldgrebe_format(image, words, v[SHAPE], v[S], v[G], record);
+    case WRITE: return foldgrebe_write(image, words, v[SHAPE], v[S], v[G], v[BLOCK], list, length);
+    case READ: return foldgrebe_read(image, words, v[SHAPE], v[S], v[G], v[BLOCK], list, length, answer + VERDICT);
+    case VISIT: return foldgrebe_visit(image, words, v[SHAPE], v[S], v[G], v[BLOCK], answer + VERDICT);
+    case ASK: return foldgrebe_ask(record, v[BLOCK], answer + PLACE);
+    case TURN: return foldgrebe_turn(record, image, words, answer + REPORT);
+    default: return UINT32_MAX;
     }
 }
 
@@ -37,14 +37,14 @@ int main(void)
 {
     unsigned agree = 0;
     for (uint32_t length; (length = word()) != 0; agree++) {
-        uint32_t answer[8];
+        uint32_t answer[ANSWER_WORDS] = { 0 };
         if (length > MOST) { printf("vectors: call %u is too long\n", agree + 1); return 1; }
         for (uint32_t i = 0; i < length; i++) vector[i] = word();
         uint32_t *image = vector + LENT, *list = image + vector[IMAGE_WORDS], *record = list + vector[LIST_WORDS];
         uint32_t *expected = record + vector[RECORD_WORDS];
         size_t lent = (size_t)(expected - image);
-        run(vector, image, list, record, answer);
-        if (memcmp(answer, expected, sizeof answer) || memcmp(image, expected + 8, lent * sizeof *image)) {
+        answer[NUMBER] = run(vector, image, list, record, answer);
+        if (memcmp(answer, expected, sizeof answer) || memcmp(image, expected + ANSWER_WORDS, lent * sizeof *image)) {
             printf("vectors: call %u (opcode %u) does not agree\n", agree + 1, vector[OPCODE]);
             return 1;
         }
