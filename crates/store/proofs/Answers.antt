@@ -1,11 +1,8 @@
 -- The paper's number, verdict and count tell the answers apart. Assumes nothing.
 use Prim.Native.Nat.{ℕ, zero, suc}
-use mathlib.Core.Path.{_≡_, refl, ap}
+use mathlib.Core.Path.{_≡_, refl, sym, ap}
 use native.Mathlib.Omega.{arith}
-use Rattle.block.specs.declared.Verdict.{Verdict}
-use Rattle.block.specs.declared.Verdict.the-variants.{Clean, Mended, Lost}
-use Rattle.ground.specs.Choice.{ifZero}
-use Rattle.block.specs.Verdict.{verdictNumber, verdictCount}
+use Rattle.block.proofs.Verdicts.{verdict-some, verdicts-apart}
 use Rattle.store.specs.declared.Answer.{Answer}
 use Rattle.store.specs.declared.Answer.the-variants.{Refused, Stored, Found}
 use Rattle.store.specs.Answer.{answerNumber, answerVerdict, answerCount, answered}
@@ -15,22 +12,6 @@ abbrev pub Proper : Answer → Type 0
 Proper (Refused number) = number ≡ 0 → ⊥
 Proper Stored = Unit {0}
 Proper (Found verdict) = Unit {0}
-
-pub verdicts-apart : (a b : Verdict) → verdictNumber a ≡ verdictNumber b → verdictCount a ≡ verdictCount b → a ≡ b
-verdicts-apart Clean Clean n c = refl
-verdicts-apart Clean (Mended m) n c = absurd (omega arith)
-verdicts-apart Clean (Lost m) n c = absurd (omega arith)
-verdicts-apart (Mended m) Clean n c = absurd (omega arith)
-verdicts-apart (Mended m) (Mended k) n c = ap Mended c
-verdicts-apart (Mended m) (Lost k) n c = absurd (omega arith)
-verdicts-apart (Lost m) Clean n c = absurd (omega arith)
-verdicts-apart (Lost m) (Mended k) n c = absurd (omega arith)
-verdicts-apart (Lost m) (Lost k) n c = ap Lost c
-
-verdict-some : (v : Verdict) → 0 ≡ verdictNumber v → ⊥
-verdict-some Clean e = omega arith
-verdict-some (Mended m) e = omega arith
-verdict-some (Lost m) e = omega arith
 
 pub answers-apart : (a b : Answer) → Proper a → Proper b
     → answerNumber a ≡ answerNumber b
@@ -42,9 +23,9 @@ answers-apart (Refused m) Stored p q e v c = absurd (p e)
 answers-apart (Refused m) (Found w) p q e v c = absurd (p e)
 answers-apart Stored (Refused n) p q e v c = absurd (q (omega arith))
 answers-apart Stored Stored p q e v c = refl
-answers-apart Stored (Found w) p q e v c = absurd (verdict-some w v)
+answers-apart Stored (Found w) p q e v c = absurd (verdict-some w (sym v))
 answers-apart (Found u) (Refused n) p q e v c = absurd (q (omega arith))
-answers-apart (Found u) Stored p q e v c = absurd (verdict-some u (omega arith))
+answers-apart (Found u) Stored p q e v c = absurd (verdict-some u v)
 answers-apart (Found u) (Found w) p q e v c = ap Found (verdicts-apart u w v c)
 
 -- every call's answer is proper
@@ -52,7 +33,7 @@ pub answered-proper : (number : ℕ) (answer : Answer) → Proper answer → Pro
 answered-proper zero answer p = p
 answered-proper (suc number) answer p = λ z. omega arith
 
--- ---- a call that is refused: its number is the answer, and what was lent stays
+-- ---- a call that is refused: its number is the answer
 
 pub answered-refused : (number : ℕ) (answer : Answer) → (number ≡ 0 → ⊥) → answered number answer ≡ Refused number
 answered-refused zero answer ne = absurd (ne refl)
@@ -61,7 +42,3 @@ answered-refused (suc number) answer ne = refl
 pub answered-number : (number : ℕ) (answer : Answer) → answerNumber answer ≡ 0 → answerNumber (answered number answer) ≡ number
 answered-number zero answer e = e
 answered-number (suc number) answer e = refl
-
-pub refused-kept : {A : Type 0} (number : ℕ) (new old : A) → (number ≡ 0 → ⊥) → ifZero number new old ≡ old
-refused-kept zero new old ne = absurd (ne refl)
-refused-kept (suc number) new old ne = refl

@@ -16,18 +16,23 @@ use Rattle.block.specs.Block.{blank, validBlock, mendedBlock, dataInto, dataOf}
 use Rattle.block.specs.Verdict.{verdictOf}
 use Rattle.block.proofs.Verdict.{the-type}
 use Rattle.ground.proofs.Lists.{list-is}
+use Rattle.store.specs.declared.Answer.{Answer}
 use Rattle.store.specs.declared.Answer.the-variants.{Refused, Stored, Found}
+use Rattle.store.specs.Answer.{verdictIn}
 use Rattle.store.specs.Inner.{strideRead, strideWrite}
 use Rattle.store.specs.Image.{gathered, placed}
 use Rattle.store.specs.Write.{writeAnswer, writeAfter, Writes}
 use Rattle.store.specs.Read.{readAnswer, readBuffer, mendedData, Reads}
-use Rattle.store.specs.Refusal.{visitRefusal, dataRefusal}
-use Rattle.store.specs.Shapes.{shapeOf}
-use Rattle.store.specs.Visit.{visitAnswer, visitAfter, Visits}
+use Rattle.layout.specs.declared.Layout.{Layout}
+use Rattle.layout.specs.Layout.{shapeOf}
+use Rattle.layout.specs.Refusal.{blockRefusal}
+use Rattle.layout.proofs.Sites.{Located}
+use Rattle.store.specs.Refusal.{dataRefusal}
+use Rattle.store.specs.Visit.{visitAnswer, visitAfter, Visits, VisitsAccepted}
 use Rattle.ground.proofs.Choices.{refused-kept}
 use Rattle.store.proofs.Answers.{answered-refused}
 use Rattle.store.proofs.Image.{gathered-stride, placed-stride}
-use Rattle.store.proofs.Located.{Located, list-fits}
+use Rattle.store.proofs.Located.{list-fits}
 use Rattle.store.proofs.Strides.{left}
 use Rattle.store.proofs.Verdicts.{lost-some, not-lost}
 
@@ -40,89 +45,94 @@ data-fills shape block buffer fits =
 
 -- ---- refused: the number is the answer, and what was lent stays
 
-module _ (image : List ℕ) (shape s g block number : ℕ) where
-  pub write-refused : (list : List ℕ) → dataRefusal (length image) shape s g block (length list) ≡ number → (number ≡ 0 → ⊥)
-      → Writes image shape s g block list (Refused number) image
+module _ (image : List ℕ) (layout : Layout) (block number : ℕ) where
+  pub write-refused : (list : List ℕ) → dataRefusal (length image) layout block (length list) ≡ number → (number ≡ 0 → ⊥)
+      → Writes image layout block list (Refused number) image
   unfolding writeAnswer writeAfter
   write-refused list e ne =
       record { answers = rw e (sym (answered-refused number _ ne)); leaves = rw e (sym (refused-kept number _ image ne)) }
 
-  pub read-refused : (buffer : List ℕ) → dataRefusal (length image) shape s g block (length buffer) ≡ number → (number ≡ 0 → ⊥)
-      → Reads image shape s g block buffer (Refused number) buffer
+  pub read-refused : (buffer : List ℕ) → dataRefusal (length image) layout block (length buffer) ≡ number → (number ≡ 0 → ⊥)
+      → Reads image layout block buffer (Refused number) buffer
   unfolding readAnswer readBuffer
   read-refused buffer e ne =
       record { answers = rw e (sym (answered-refused number _ ne)); leaves = rw e (sym (refused-kept number _ buffer ne)) }
 
-  pub visit-refused : visitRefusal (length image) shape s g block ≡ number → (number ≡ 0 → ⊥) → Visits image shape s g block (Refused number) image
+  pub visit-refused : blockRefusal (length image) layout block ≡ number → (number ≡ 0 → ⊥) → Visits image layout block (Refused number) image
   unfolding visitAnswer visitAfter
   visit-refused e ne =
       record { answers = rw e (sym (answered-refused number _ ne)); leaves = rw e (sym (refused-kept number _ image ne)) }
 
 -- ---- accepted: from what the steps gave
 
-module _ (image : List ℕ) {shape s g block : ℕ} {kind : Shape} {at : ℕ} (place : Located (length image) shape s g block kind at) where
+module _ (image : List ℕ) {layout : Layout} {block : ℕ} {shape : Shape} {at : ℕ} (site : Located (length image) layout block shape at) where
   -- the rows that are gathered are the block, and those that are scattered lie where it does
-  whole : strideRead image at s blank (rows kind) ≡ gathered (shapeOf shape) s block image
-  whole = rw (place .first, place .same-shape) (gathered-stride (shapeOf shape) s block image)
+  whole : strideRead image at (layout .s) blank (rows shape) ≡ gathered layout block image
+  whole = rw (site .first, site .same-shape) (gathered-stride layout block image)
 
-  back : (given : List ℕ) → strideWrite image at s given (rows kind) ≡ placed (shapeOf shape) s block given image
-  back given = rw (place .first, place .same-shape) (placed-stride (shapeOf shape) s block given image)
+  back : (given : List ℕ) → strideWrite image at (layout .s) given (rows shape) ≡ placed layout block given image
+  back given = rw (site .first, site .same-shape) (placed-stride layout block given image)
 
-  pub write-stored : (list valid after : List ℕ) → length list ≡ words kind → valid ≡ validBlock kind list → after ≡ strideWrite image at s valid (rows kind)
-      → Writes image shape s g block list Stored after
+  pub write-stored : (list valid after : List ℕ) → length list ≡ words shape → valid ≡ validBlock shape list → after ≡ strideWrite image at (layout .s) valid (rows shape)
+      → Writes image layout block list Stored after
   unfolding writeAnswer writeAfter
   write-stored list valid after fits e w =
-      let none = list-fits place (length list) fits in
+      let none = list-fits (length image) layout block site (length list) fits in
       record {
         answers = rw none;
         leaves = rw none
-            (w ∙ back valid ∙ ap (λ (l : List ℕ). placed (shapeOf shape) s block l image) (e ∙ ap (λ (k : Shape). validBlock k list) (place .same-shape)));
+            (w ∙ back valid ∙ ap (λ (l : List ℕ). placed layout block l image) (e ∙ ap (λ (k : Shape). validBlock k list) (site .same-shape)));
       }
 
-  module _ (found : List ℕ) (took : found ≡ strideRead image at s blank (rows kind)) (v : Verdict) (says : v ≡ verdictOf kind found) where
-    seen : found ≡ gathered (shapeOf shape) s block image
+  module _ (found : List ℕ) (took : found ≡ strideRead image at (layout .s) blank (rows shape)) (v : Verdict) (says : v ≡ verdictOf shape found) where
+    seen : found ≡ gathered layout block image
     seen = took ∙ whole
 
-    judged : v ≡ verdictOf (shapeOf shape) (gathered (shapeOf shape) s block image)
-    judged = says ∙ ap₂ verdictOf (place .same-shape) seen
+    judged : v ≡ verdictOf (shapeOf layout) (gathered layout block image)
+    judged = says ∙ ap₂ verdictOf (site .same-shape) seen
 
-    mends : (mended : List ℕ) → mended ≡ mendedBlock kind found → mended ≡ mendedBlock (shapeOf shape) (gathered (shapeOf shape) s block image)
-    mends mended e = e ∙ ap₂ mendedBlock (place .same-shape) seen
+    mends : (mended : List ℕ) → mended ≡ mendedBlock shape found → mended ≡ mendedBlock (shapeOf layout) (gathered layout block image)
+    mends mended e = e ∙ ap₂ mendedBlock (site .same-shape) seen
 
-    pub visit-found : (after : List ℕ) → after ≡ strideWrite image at s (mendedBlock kind found) (rows kind)
-        → Visits image shape s g block (Found v) after
+    pub visit-found : (after : List ℕ) → after ≡ strideWrite image at (layout .s) (mendedBlock shape found) (rows shape)
+        → Visits image layout block (Found v) after
     unfolding visitAnswer visitAfter
     visit-found after w =
         record {
-          answers = rw (place .passed) (ap Found judged);
-          leaves = rw (place .passed)
-              (w ∙ back (mendedBlock kind found) ∙ ap (λ (l : List ℕ). placed (shapeOf shape) s block l image) (mends (mendedBlock kind found) refl));
+          answers = rw (site .passed) (ap Found judged);
+          leaves = rw (site .passed)
+              (w ∙ back (mendedBlock shape found) ∙ ap (λ (l : List ℕ). placed layout block l image) (mends (mendedBlock shape found) refl));
         }
 
-    module _ (buffer : List ℕ) (fits : length buffer ≡ words kind) where
-      read-answer : Found v ≡ readAnswer image shape s g block buffer
+    module _ (buffer : List ℕ) (fits : length buffer ≡ words shape) where
+      read-answer : Found v ≡ readAnswer image layout block buffer
       unfolding readAnswer
-      read-answer = rw (list-fits place (length buffer) fits) (ap Found judged)
+      read-answer = rw (list-fits (length image) layout block site (length buffer) fits) (ap Found judged)
 
-      pub read-lost : (m : ℕ) → v ≡ Lost m → Reads image shape s g block buffer (Found v) buffer
+      pub read-lost : (m : ℕ) → v ≡ Lost m → Reads image layout block buffer (Found v) buffer
       unfolding readBuffer mendedData
       read-lost m l =
           record {
             answers = read-answer;
-            leaves = rw (list-fits place (length buffer) fits)
-                (sym (refused-kept _ _ buffer (lost-some (shapeOf shape) (gathered (shapeOf shape) s block image) v judged m l)));
+            leaves = rw (list-fits (length image) layout block site (length buffer) fits)
+                (sym (refused-kept _ _ buffer (lost-some (shapeOf layout) (gathered layout block image) v judged m l)));
           }
 
-      pub read-data : OneOf (0 ∷ 1 ∷ []) (tagOf the-type v) → (mended after : List ℕ) → mended ≡ mendedBlock kind found → after ≡ dataInto kind mended buffer
-          → Reads image shape s g block buffer (Found v) after
+      pub read-data : OneOf (0 ∷ 1 ∷ []) (tagOf the-type v) → (mended after : List ℕ) → mended ≡ mendedBlock shape found → after ≡ dataInto shape mended buffer
+          → Reads image layout block buffer (Found v) after
       unfolding readBuffer mendedData
       read-data keys mended after e a =
           record {
             answers = read-answer;
-            leaves = rw (list-fits place (length buffer) fits, not-lost (shapeOf shape) (gathered (shapeOf shape) s block image) v judged keys)
-                (a ∙ data-fills kind mended buffer fits ∙ ap₂ dataOf (place .same-shape) (mends mended e));
+            leaves = rw (list-fits (length image) layout block site (length buffer) fits, not-lost (shapeOf layout) (gathered layout block image) v judged keys)
+                (a ∙ data-fills shape mended buffer fits ∙ ap₂ dataOf (site .same-shape) (mends mended e));
           }
 
   -- a valid block is left where it lies
-  pub visit-clean : Clean ≡ verdictOf kind (strideRead image at s blank (rows kind)) → Visits image shape s g block (Found Clean) image
-  visit-clean says = visit-found _ refl Clean says image (left image kind at s Clean says (hit (0 ∷ 2 ∷ []) 0 tt))
+  pub visit-clean : Clean ≡ verdictOf shape (strideRead image at (layout .s) blank (rows shape)) → Visits image layout block (Found Clean) image
+  visit-clean says = visit-found _ refl Clean says image (left image shape at (layout .s) Clean says (hit (0 ∷ 2 ∷ []) 0 tt))
+
+-- a visit for a caller who wants its verdict alone
+pub accepts : {image : List ℕ} {layout : Layout} {block : ℕ} {answer : Answer} {after : List ℕ} → Visits image layout block answer after
+    → VisitsAccepted image layout block (verdictIn answer) after
+accepts visited = record { says = ap verdictIn (visited .answers); leaves = visited .leaves }

@@ -7,16 +7,15 @@ use native.Mathlib.Decide.{decLt}
 use lib.ListN.{length, getD, replicate}
 use lib.Pow.{pow-pos}
 use lib.Seq.{ext-getD}
-use Rattle.block.specs.declared.Shape.{Shape}
-use Rattle.block.specs.Shape.{rows}
 use Rattle.block.specs.Block.{blank, Fitting}
 use Rattle.ground.proofs.Stores.{length-stores, stores-miss, stores-hit, stores-agree, stores-same, stores-all}
 use Rattle.ground.specs.Stores.{stores}
 use Rattle.block.proofs.Judged.{rows-fit}
-use Rattle.store.specs.Layout.{index}
+use Rattle.layout.specs.declared.Layout.{Layout}
+use Rattle.layout.specs.Layout.{shapeOf, rowsOf, index}
 use Rattle.store.specs.Image.{gathered, placed, Untouched}
 use Rattle.store.specs.Inner.{strideRead, strideWrite}
-use Rattle.store.proofs.Index.{stride, one-to-one}
+use Rattle.layout.proofs.Index.{stride, one-to-one}
 
 zeros : (n k : ℕ) → _≡_ {A = ℕ} (getD (replicate n 0) k 0) 0
 zeros zero k = refl
@@ -25,98 +24,98 @@ zeros (suc n) (suc k) = zeros n k
 
 -- ---- one block
 
-module _ (shape : Shape) (s block : ℕ) where
-  pub length-gathered : (image : List ℕ) → length (gathered shape s block image) ≡ 72
+module _ (layout : Layout) (block : ℕ) where
+  pub length-gathered : (image : List ℕ) → length (gathered layout block image) ≡ 72
   unfolding gathered
-  length-gathered image = length-stores blank (λ k. k) (λ k. getD image (index (rows shape) s block (suc k)) 0) (rows shape)
+  length-gathered image = length-stores blank (λ k. k) (λ k. getD image (index layout block (suc k)) 0) (rowsOf layout)
 
   -- the words past the last row are 0
-  pub gathered-rest : (image : List ℕ) (k : ℕ) → rows shape ≤ k → getD (gathered shape s block image) k 0 ≡ 0
+  pub gathered-rest : (image : List ℕ) (k : ℕ) → rowsOf layout ≤ k → getD (gathered layout block image) k 0 ≡ 0
   unfolding gathered
   gathered-rest image k h =
-      stores-miss blank (λ k. k) (λ k. getD image (index (rows shape) s block (suc k)) 0) k (rows shape) (λ j hj e. omega arith)
+      stores-miss blank (λ k. k) (λ k. getD image (index layout block (suc k)) 0) k (rowsOf layout) (λ j hj e. omega arith)
       ∙ zeros 72 k
 
-  pub gathered-row : (image : List ℕ) (k : ℕ) → k < rows shape → getD (gathered shape s block image) k 0 ≡ getD image (index (rows shape) s block (suc k)) 0
+  pub gathered-row : (image : List ℕ) (k : ℕ) → k < rowsOf layout → getD (gathered layout block image) k 0 ≡ getD image (index layout block (suc k)) 0
   unfolding gathered
   gathered-row image k h =
-      stores-hit blank (λ k. k) (λ k. getD image (index (rows shape) s block (suc k)) 0) k (rows shape) (λ j hj e. e) h
-      (omega (arith, rows-fit shape))
+      stores-hit blank (λ k. k) (λ k. getD image (index layout block (suc k)) 0) k (rowsOf layout) (λ j hj e. e) h
+      (omega (arith, rows-fit (shapeOf layout)))
 
-  pub gathered-words : (image : List ℕ) → Fitting image → Fitting (gathered shape s block image)
+  pub gathered-words : (image : List ℕ) → Fitting image → Fitting (gathered layout block image)
   unfolding gathered
   gathered-words image words =
-      stores-all (λ w. w < 2 ^ 32) blank (λ k. k) (λ k. getD image (index (rows shape) s block (suc k)) 0) (rows shape)
+      stores-all (λ w. w < 2 ^ 32) blank (λ k. k) (λ k. getD image (index layout block (suc k)) 0) (rowsOf layout)
       (λ i. rw (zeros 72 i) (pow-pos 32))
-      (λ k h. words (index (rows shape) s block (suc k)))
+      (λ k h. words (index layout block (suc k)))
 
-  pub length-placed : (given image : List ℕ) → length (placed shape s block given image) ≡ length image
+  pub length-placed : (given image : List ℕ) → length (placed layout block given image) ≡ length image
   unfolding placed
-  length-placed given image = length-stores image (λ k. index (rows shape) s block (suc k)) (λ k. getD given k 0) (rows shape)
+  length-placed given image = length-stores image (λ k. index layout block (suc k)) (λ k. getD given k 0) (rowsOf layout)
 
-  pub placed-words : (given image : List ℕ) → Fitting given → Fitting image → Fitting (placed shape s block given image)
+  pub placed-words : (given image : List ℕ) → Fitting given → Fitting image → Fitting (placed layout block given image)
   unfolding placed
   placed-words given image small words =
-      stores-all (λ w. w < 2 ^ 32) image (λ k. index (rows shape) s block (suc k)) (λ k. getD given k 0) (rows shape) words (λ k h. small k)
+      stores-all (λ w. w < 2 ^ 32) image (λ k. index layout block (suc k)) (λ k. getD given k 0) (rowsOf layout) words (λ k h. small k)
 
   -- placing what was gathered changes nothing
-  pub placed-gathered : (image : List ℕ) → placed shape s block (gathered shape s block image) image ≡ image
+  pub placed-gathered : (image : List ℕ) → placed layout block (gathered layout block image) image ≡ image
   unfolding placed
   placed-gathered image =
-      stores-same image (λ k. index (rows shape) s block (suc k)) (λ k. getD (gathered shape s block image) k 0) (rows shape) (gathered-row image)
+      stores-same image (λ k. index layout block (suc k)) (λ k. getD (gathered layout block image) k 0) (rowsOf layout) (gathered-row image)
 
   -- a word that is no row of the block is as it was
   pub placed-elsewhere : (given image : List ℕ) (i : ℕ)
-      → ((p : ℕ) → 1 ≤ p → p ≤ rows shape → i ≡ index (rows shape) s block p → ⊥)
-      → getD (placed shape s block given image) i 0 ≡ getD image i 0
+      → ((p : ℕ) → 1 ≤ p → p ≤ rowsOf layout → i ≡ index layout block p → ⊥)
+      → getD (placed layout block given image) i 0 ≡ getD image i 0
   unfolding placed
   placed-elsewhere given image i none =
-      stores-miss image (λ k. index (rows shape) s block (suc k)) (λ k. getD given k 0) i (rows shape) (λ k h. none (suc k) (omega arith) h)
+      stores-miss image (λ k. index layout block (suc k)) (λ k. getD given k 0) i (rowsOf layout) (λ k h. none (suc k) (omega arith) h)
 
   -- rows a stride apart from the first
-  pub gathered-stride : (image : List ℕ) → strideRead image (index (rows shape) s block 1) s blank (rows shape) ≡ gathered shape s block image
+  pub gathered-stride : (image : List ℕ) → strideRead image (index layout block 1) (layout .s) blank (rowsOf layout) ≡ gathered layout block image
   unfolding gathered strideRead
   gathered-stride image =
-      ap (λ (f : ℕ → ℕ). stores blank (λ k. k) (λ k. getD image (f k) 0) (rows shape)) (fun-ext (λ k. sym (stride (rows shape) s block k)))
+      ap (λ (f : ℕ → ℕ). stores blank (λ k. k) (λ k. getD image (f k) 0) (rowsOf layout)) (fun-ext (λ k. sym (stride (rowsOf layout) (layout .s) block k)))
 
-  pub placed-stride : (given image : List ℕ) → strideWrite image (index (rows shape) s block 1) s given (rows shape) ≡ placed shape s block given image
+  pub placed-stride : (given image : List ℕ) → strideWrite image (index layout block 1) (layout .s) given (rowsOf layout) ≡ placed layout block given image
   unfolding placed strideWrite
   placed-stride given image =
-      ap (λ (f : ℕ → ℕ). stores image f (λ k. getD given k 0) (rows shape)) (fun-ext (λ k. sym (stride (rows shape) s block k)))
+      ap (λ (f : ℕ → ℕ). stores image f (λ k. getD given k 0) (rowsOf layout)) (fun-ext (λ k. sym (stride (rowsOf layout) (layout .s) block k)))
 
 -- ---- one block beside another
 
-module _ (shape : Shape) (s block : ℕ) where
-  pub same-untouched : (image : List ℕ) → Untouched shape s block image image
+module _ (layout : Layout) (block : ℕ) where
+  pub same-untouched : (image : List ℕ) → Untouched layout block image image
   same-untouched image = record { size = refl; elsewhere = λ i none. refl; others = λ other ne. refl }
 
-  pub placed-untouched : 1 ≤ s → (given image : List ℕ) → Untouched shape s block image (placed shape s block given image)
+  pub placed-untouched : 1 ≤ layout .s → (given image : List ℕ) → Untouched layout block image (placed layout block given image)
   unfolding gathered
   placed-untouched first given image =
       record {
-        size = length-placed shape s block given image;
-        elsewhere = placed-elsewhere shape s block given image;
+        size = length-placed layout block given image;
+        elsewhere = placed-elsewhere layout block given image;
         others = λ other ne.
-            stores-agree blank (λ k. k) _ _ (rows shape)
+            stores-agree blank (λ k. k) _ _ (rowsOf layout)
             (λ k h.
-            placed-elsewhere shape s block given image (index (rows shape) s other (suc k))
-            (λ p l m e. ne (one-to-one (rows shape) s first other (suc k) block p (omega arith) h l m e .0)));
+            placed-elsewhere layout block given image (index layout other (suc k))
+            (λ p l m e. ne (one-to-one (rowsOf layout) (layout .s) first other (suc k) block p (omega arith) h l m e .0)));
       }
 
   -- what was placed is gathered again
-  pub gathered-placed : 1 ≤ s → (given image : List ℕ)
-      → ((p : ℕ) → 1 ≤ p → p ≤ rows shape → index (rows shape) s block p < length image)
+  pub gathered-placed : 1 ≤ layout .s → (given image : List ℕ)
+      → ((p : ℕ) → 1 ≤ p → p ≤ rowsOf layout → index layout block p < length image)
       → length given ≡ 72
-      → ((k : ℕ) → rows shape ≤ k → getD given k 0 ≡ 0)
-      → gathered shape s block (placed shape s block given image) ≡ given
+      → ((k : ℕ) → rowsOf layout ≤ k → getD given k 0 ≡ 0)
+      → gathered layout block (placed layout block given image) ≡ given
   unfolding placed
   gathered-placed first given image inside len rest =
-      ext-getD 0 _ given (length-gathered shape s block (placed shape s block given image) ∙ sym len)
-      (λ k h. elim (decLt k (rows shape)) [
-        | yes l ↦ gathered-row shape s block (placed shape s block given image) k l
-            ∙ stores-hit image (λ k. index (rows shape) s block (suc k)) (λ k. getD given k 0) k (rows shape)
-            (λ j hj e. let q = one-to-one (rows shape) s first block (suc k) block (suc j) (omega arith) l (omega arith) hj e .1 in omega arith)
+      ext-getD 0 _ given (length-gathered layout block (placed layout block given image) ∙ sym len)
+      (λ k h. elim (decLt k (rowsOf layout)) [
+        | yes l ↦ gathered-row layout block (placed layout block given image) k l
+            ∙ stores-hit image (λ k. index layout block (suc k)) (λ k. getD given k 0) k (rowsOf layout)
+            (λ j hj e. let q = one-to-one (rowsOf layout) (layout .s) first block (suc k) block (suc j) (omega arith) l (omega arith) hj e .1 in omega arith)
             l
             (inside (suc k) (omega arith) l)
-        | no l ↦ gathered-rest shape s block (placed shape s block given image) k (omega arith) ∙ sym (rest k (omega arith))
+        | no l ↦ gathered-rest layout block (placed layout block given image) k (omega arith) ∙ sym (rest k (omega arith))
       ])

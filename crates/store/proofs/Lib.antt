@@ -1,12 +1,10 @@
-mod Tests
-pub mod Shapes
 pub mod Ladder
-pub mod Index
-pub mod Image
 pub mod Located
-pub mod Answers
-pub mod Verdicts
+pub mod Image
 pub mod Rows
-mod Strides
-mod Calls
+pub mod Verdicts
+pub mod Strides
+pub mod Cleared
+pub mod Answers
 pub mod After
+pub mod Calls

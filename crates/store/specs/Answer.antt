@@ -1,7 +1,10 @@
 -- What a call answers, in the paper's numbers. A refusal answers its number, with verdict and count 0. An accepted call answers number 0;
 -- write then answers no verdict and no count, read and visit those of the block. Assumes nothing.
 use Prim.Native.Nat.{ℕ, zero, suc}
-use Rattle.block.specs.Verdict.{verdictNumber, verdictCount}
+use mathlib.Core.List.{List}
+use Rattle.block.specs.declared.Verdict.{Verdict}
+use Rattle.block.specs.declared.Verdict.the-variants.{Clean}
+use Rattle.block.specs.Verdict.{verdictNumber, verdictCount, verdictWords, noVerdict}
 use Rattle.store.specs.declared.Answer.{Answer}
 use Rattle.store.specs.declared.Answer.the-variants.{Refused, Stored, Found}
 
@@ -19,6 +22,18 @@ abbrev pub answerCount : Answer → ℕ
 answerCount (Refused number) = 0
 answerCount Stored = 0
 answerCount (Found verdict) = verdictCount verdict
+
+-- verdict and count as words
+abbrev pub answerWords : Answer → List ℕ
+answerWords (Refused number) = noVerdict
+answerWords Stored = noVerdict
+answerWords (Found verdict) = verdictWords verdict
+
+-- the verdict of an answer, and clean where it has none
+abbrev pub verdictIn : Answer → Verdict
+verdictIn (Refused number) = Clean
+verdictIn Stored = Clean
+verdictIn (Found verdict) = verdict
 
 -- the answer where nothing is refused, and else the refusal
 abbrev pub answered : ℕ → Answer → Answer

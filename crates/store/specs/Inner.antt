@@ -1,23 +1,8 @@
--- What the code computes on its way: the place of a block's first row, and rows a stride apart. Assumes nothing.
-use Prim.Native.Nat.{ℕ, zero, suc, _+_, _*_, _≤_, _<_}
+-- What the code computes on its way: rows a stride apart. Assumes nothing.
+use Prim.Native.Nat.{ℕ, _+_, _*_, _≤_, _<_}
 use mathlib.Core.List.{List}
 use lib.ListN.{getD}
-use Rattle.block.specs.declared.Shape.{Shape}
 use Rattle.ground.specs.Stores.{stores}
-use Rattle.store.specs.declared.places.Place.{Place}
-use Rattle.store.specs.declared.places.Place.the-variants.{Nowhere, At}
-use Rattle.store.specs.Layout.{index}
-use Rattle.store.specs.Shapes.{shapeOf, rowsOf}
-use Rattle.store.specs.Refusal.{visitRefusal}
-
--- the place, where nothing is refused
-abbrev pub placeIf : ℕ → Shape → ℕ → Place
-placeIf zero shape at = At shape at
-placeIf (suc number) shape at = Nowhere (suc number)
-
-unfoldable pub placeOf : ℕ → ℕ → ℕ → ℕ → ℕ → Place
-placeOf len shape s g block =
-    placeIf (visitRefusal len shape s g block) (shapeOf shape) (index (rowsOf shape) s block 1)
 
 -- the block with its first n words taken from `at` on, s apart
 unfoldable pub strideRead : List ℕ → ℕ → ℕ → List ℕ → ℕ → List ℕ

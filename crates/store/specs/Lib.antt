@@ -1,9 +1,8 @@
-pub mod Layout
-pub mod Shapes
 pub mod Refusal
 pub mod Reason
 pub mod Image
 pub mod Answer
+pub mod Fresh
 pub mod Write
 pub mod Read
 pub mod Visit

@@ -12,26 +12,27 @@ use Rattle.store.specs.declared.Answer.the-variants.{Found}
 use Rattle.store.specs.Answer.{answered}
 use Rattle.store.specs.Image.{gathered}
 use Rattle.store.specs.Refusal.{dataRefusal}
-use Rattle.store.specs.Shapes.{shapeOf}
+use Rattle.layout.specs.declared.Layout.{Layout}
+use Rattle.layout.specs.Layout.{shapeOf}
 
 -- the mended data of a gathered block; the buffer as it was where a lane is lost
 unfoldable pub mendedData : Shape → List ℕ → List ℕ → List ℕ
 mendedData shape block buffer = ifZero (lanesLost shape block) (dataOf shape (mendedBlock shape block)) buffer
 
 -- what read answers
-unfoldable pub readAnswer : List ℕ → ℕ → ℕ → ℕ → ℕ → List ℕ → Answer
-readAnswer image shape s g block buffer =
-    answered (dataRefusal (length image) shape s g block (length buffer))
-    (Found (verdictOf (shapeOf shape) (gathered (shapeOf shape) s block image)))
+unfoldable pub readAnswer : List ℕ → Layout → ℕ → List ℕ → Answer
+readAnswer image layout block buffer =
+    answered (dataRefusal (length image) layout block (length buffer))
+    (Found (verdictOf (shapeOf layout) (gathered layout block image)))
 
 -- the buffer that read leaves
-unfoldable pub readBuffer : List ℕ → ℕ → ℕ → ℕ → ℕ → List ℕ → List ℕ
-readBuffer image shape s g block buffer =
-    ifZero (dataRefusal (length image) shape s g block (length buffer))
-    (mendedData (shapeOf shape) (gathered (shapeOf shape) s block image) buffer)
+unfoldable pub readBuffer : List ℕ → Layout → ℕ → List ℕ → List ℕ
+readBuffer image layout block buffer =
+    ifZero (dataRefusal (length image) layout block (length buffer))
+    (mendedData (shapeOf layout) (gathered layout block image) buffer)
     buffer
 
 -- the promise of read: what it answers, and the buffer that it leaves
-pub record Reads (image : List ℕ) (shape s g block : ℕ) (buffer : List ℕ) (answer : Answer) (after : List ℕ) : Type 0 where
-  pub answers : answer ≡ readAnswer image shape s g block buffer
-  pub leaves : after ≡ readBuffer image shape s g block buffer
+pub record Reads (image : List ℕ) (layout : Layout) (block : ℕ) (buffer : List ℕ) (answer : Answer) (after : List ℕ) : Type 0 where
+  pub answers : answer ≡ readAnswer image layout block buffer
+  pub leaves : after ≡ readBuffer image layout block buffer

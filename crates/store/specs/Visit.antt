@@ -5,28 +5,35 @@ use mathlib.Core.List.{List}
 use lib.ListN.{length}
 use Rattle.ground.specs.Choice.{ifZero}
 use Rattle.block.specs.Block.{mendedBlock}
+use Rattle.block.specs.declared.Verdict.{Verdict}
 use Rattle.block.specs.Verdict.{verdictOf}
 use Rattle.store.specs.declared.Answer.{Answer}
 use Rattle.store.specs.declared.Answer.the-variants.{Found}
-use Rattle.store.specs.Answer.{answered}
+use Rattle.store.specs.Answer.{answered, verdictIn}
 use Rattle.store.specs.Image.{gathered, placed}
-use Rattle.store.specs.Refusal.{visitRefusal}
-use Rattle.store.specs.Shapes.{shapeOf}
+use Rattle.layout.specs.Refusal.{blockRefusal}
+use Rattle.layout.specs.declared.Layout.{Layout}
+use Rattle.layout.specs.Layout.{shapeOf}
 
 -- what visit answers
-unfoldable pub visitAnswer : List ℕ → ℕ → ℕ → ℕ → ℕ → Answer
-visitAnswer image shape s g block =
-    answered (visitRefusal (length image) shape s g block)
-    (Found (verdictOf (shapeOf shape) (gathered (shapeOf shape) s block image)))
+unfoldable pub visitAnswer : List ℕ → Layout → ℕ → Answer
+visitAnswer image layout block =
+    answered (blockRefusal (length image) layout block)
+    (Found (verdictOf (shapeOf layout) (gathered layout block image)))
 
 -- the image that visit leaves
-unfoldable pub visitAfter : List ℕ → ℕ → ℕ → ℕ → ℕ → List ℕ
-visitAfter image shape s g block =
-    ifZero (visitRefusal (length image) shape s g block)
-    (placed (shapeOf shape) s block (mendedBlock (shapeOf shape) (gathered (shapeOf shape) s block image)) image)
+unfoldable pub visitAfter : List ℕ → Layout → ℕ → List ℕ
+visitAfter image layout block =
+    ifZero (blockRefusal (length image) layout block)
+    (placed layout block (mendedBlock (shapeOf layout) (gathered layout block image)) image)
     image
 
 -- the promise of visit: what it answers, and the image that it leaves
-pub record Visits (image : List ℕ) (shape s g block : ℕ) (answer : Answer) (after : List ℕ) : Type 0 where
-  pub answers : answer ≡ visitAnswer image shape s g block
-  pub leaves : after ≡ visitAfter image shape s g block
+pub record Visits (image : List ℕ) (layout : Layout) (block : ℕ) (answer : Answer) (after : List ℕ) : Type 0 where
+  pub answers : answer ≡ visitAnswer image layout block
+  pub leaves : after ≡ visitAfter image layout block
+
+-- the promise of visit_accepted: the verdict of that answer, and the image that a visit leaves
+pub record VisitsAccepted (image : List ℕ) (layout : Layout) (block : ℕ) (verdict : Verdict) (after : List ℕ) : Type 0 where
+  pub says : verdict ≡ verdictIn (visitAnswer image layout block)
+  pub leaves : after ≡ visitAfter image layout block

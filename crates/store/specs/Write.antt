@@ -10,20 +10,21 @@ use Rattle.store.specs.declared.Answer.the-variants.{Stored}
 use Rattle.store.specs.Answer.{answered}
 use Rattle.store.specs.Image.{placed}
 use Rattle.store.specs.Refusal.{dataRefusal}
-use Rattle.store.specs.Shapes.{shapeOf}
+use Rattle.layout.specs.declared.Layout.{Layout}
+use Rattle.layout.specs.Layout.{shapeOf}
 
 -- what write answers
-unfoldable pub writeAnswer : List ℕ → ℕ → ℕ → ℕ → ℕ → List ℕ → Answer
-writeAnswer image shape s g block list = answered (dataRefusal (length image) shape s g block (length list)) Stored
+unfoldable pub writeAnswer : List ℕ → Layout → ℕ → List ℕ → Answer
+writeAnswer image layout block list = answered (dataRefusal (length image) layout block (length list)) Stored
 
 -- the image that write leaves
-unfoldable pub writeAfter : List ℕ → ℕ → ℕ → ℕ → ℕ → List ℕ → List ℕ
-writeAfter image shape s g block list =
-    ifZero (dataRefusal (length image) shape s g block (length list))
-    (placed (shapeOf shape) s block (validBlock (shapeOf shape) list) image)
+unfoldable pub writeAfter : List ℕ → Layout → ℕ → List ℕ → List ℕ
+writeAfter image layout block list =
+    ifZero (dataRefusal (length image) layout block (length list))
+    (placed layout block (validBlock (shapeOf layout) list) image)
     image
 
 -- the promise of write: what it answers, and the image that it leaves
-pub record Writes (image : List ℕ) (shape s g block : ℕ) (list : List ℕ) (answer : Answer) (after : List ℕ) : Type 0 where
-  pub answers : answer ≡ writeAnswer image shape s g block list
-  pub leaves : after ≡ writeAfter image shape s g block list
+pub record Writes (image : List ℕ) (layout : Layout) (block : ℕ) (list : List ℕ) (answer : Answer) (after : List ℕ) : Type 0 where
+  pub answers : answer ≡ writeAnswer image layout block list
+  pub leaves : after ≡ writeAfter image layout block list

@@ -6,6 +6,7 @@ ghost use lib.ListN.{length};
 ghost use Rattle.block.specs.Shape.{rows};
 ghost use Rattle.store.specs.Inner.{Inside, strideRead, strideWrite};
 use block::Shape;
+use block::rows;
 
 // The words at `at`, `at + s`, `at + 2 s`, .., `rows` of them, into the first of the block.
 fn take_rows(image: &[u32], rows: usize, at: usize, s: usize, block: &mut [u32; 72])
@@ -61,8 +62,8 @@ pub(crate) fn gather(image: &[u32], shape: Shape, at: usize, s: usize, block: &m
     ensures { λ r. ⌜ now (block .exit) ≡ strideRead (now (image .entry)) at s (now (block .entry)) (rows shape) ⌝ }
 {
     match shape {
-        Shape::One => take(&*image, 16, at, s, block),
-        Shape::Two => take(&*image, 72, at, s, block),
+        Shape::One => take(&*image, rows(Shape::One), at, s, block),
+        Shape::Two => take(&*image, rows(Shape::Two), at, s, block),
     }
 }
 
@@ -72,7 +73,7 @@ pub(crate) fn scatter(image: &mut [u32], shape: Shape, at: usize, s: usize, bloc
     ensures { λ r. ⌜ now (image .exit) ≡ strideWrite (now (image .entry)) at s (now (block .entry)) (rows shape) ⌝ }
 {
     match shape {
-        Shape::One => put(image, 16, at, s, block),
-        Shape::Two => put(image, 72, at, s, block),
+        Shape::One => put(image, rows(Shape::One), at, s, block),
+        Shape::Two => put(image, rows(Shape::Two), at, s, block),
     }
 }

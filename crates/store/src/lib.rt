@@ -1,17 +1,15 @@
-// Blocks in a lent image: where their rows lie, what is refused; write, read and visit.
+// Blocks in a lent image: the fresh image, write, read and visit.
+mod clearing;
 mod copies;
-mod places;
 mod reading;
-mod refusals;
 mod visiting;
 mod writing;
 
 use block::Verdict;
+pub use clearing::fresh;
 pub use reading::read;
-pub use refusals::check_block;
-pub use refusals::check_geometry;
-pub use refusals::check_layout;
 pub use visiting::visit;
+pub use visiting::visit_accepted;
 pub use writing::write;
 
 // What a call answers.

@@ -6,41 +6,40 @@ ghost use Rattle.block.specs.Verdict.{verdictOf};
 ghost use Rattle.store.specs.Read.{Reads};
 use super::Answer;
 use super::copies::gather;
-use super::places::Place;
-use super::places::locate;
-use super::places::words_of;
 use super::visiting::mend;
 use block::Shape;
 use block::Verdict;
+use layout::Layout;
+use layout::Site;
 
 // The copy of a block, mended as a visit would mend it.
-fn mend_copy(kind: Shape, copy: &mut [u32]) -> Verdict
+fn mend_copy(shape: Shape, copy: &mut [u32]) -> Verdict
     requires { ⌜ length (now copy) ≡ 72 ⌝ }
-    ensures verdict { λ r. ⌜ r ≡ verdictOf kind (now (copy .entry)) ⌝ }
-    ensures after { λ r. ⌜ now (copy .exit) ≡ mendedBlock kind (now (copy .entry)) ⌝ }
+    ensures verdict { λ r. ⌜ r ≡ verdictOf shape (now (copy .entry)) ⌝ }
+    ensures after { λ r. ⌜ now (copy .exit) ≡ mendedBlock shape (now (copy .entry)) ⌝ }
 {
-    if block::valid(kind, copy, 0) {
+    if block::valid(shape, copy, 0) {
         return Verdict::Clean;
     }
-    mend(copy, kind, 0, 1)
+    mend(copy, shape, 0, 1)
 }
 
-pub fn read(image: &[u32], shape: u32, s: u32, g: u32, block: u32, buffer: &mut [u32]) -> Answer
-    ensures { λ r. ⌜ Reads (now (image .entry)) shape s g block (now (buffer .entry)) r (now (buffer .exit)) ⌝ }
+pub fn read(image: &[u32], layout: Layout, block: u32, buffer: &mut [u32]) -> Answer
+    ensures { λ r. ⌜ Reads (now (image .entry)) layout block (now (buffer .entry)) r (now (buffer .exit)) ⌝ }
 {
-    match locate(image.len(), shape, s, g, block) {
-        Place::Nowhere(number) => Answer::Refused(number),
-        Place::At(kind, at) => {
-            if buffer.len() != words_of(kind) {
+    match layout.locate(image.len(), block) {
+        Site::Nowhere(number) => Answer::Refused(number),
+        Site::At(shape, at) => {
+            if buffer.len() != block::words(shape) {
                 return Answer::Refused(7);
             }
             let mut rows = [0u32; 72];
-            gather(image, kind, at, s as usize, &mut rows);
-            let verdict = mend_copy(kind, &mut rows);
+            gather(image, shape, at, layout.s as usize, &mut rows);
+            let verdict = mend_copy(shape, &mut rows);
             if let Verdict::Lost(_) = verdict {
                 return Answer::Found(verdict);
             }
-            block::data_into(kind, &rows, buffer);
+            block::data_into(shape, &rows, buffer);
             Answer::Found(verdict)
         }
     }

@@ -2,21 +2,20 @@
 ghost use Rattle.store.specs.Write.{Writes};
 use super::Answer;
 use super::copies::scatter;
-use super::places::Place;
-use super::places::locate;
-use super::places::words_of;
+use layout::Layout;
+use layout::Site;
 
-pub fn write(image: &mut [u32], shape: u32, s: u32, g: u32, block: u32, data: &[u32]) -> Answer
-    ensures { λ r. ⌜ Writes (now (image .entry)) shape s g block (now («data» .entry)) r (now (image .exit)) ⌝ }
+pub fn write(image: &mut [u32], layout: Layout, block: u32, list: &[u32]) -> Answer
+    ensures { λ r. ⌜ Writes (now (image .entry)) layout block (now (list .entry)) r (now (image .exit)) ⌝ }
 {
-    match locate(image.len(), shape, s, g, block) {
-        Place::Nowhere(number) => Answer::Refused(number),
-        Place::At(kind, at) => {
-            if data.len() != words_of(kind) {
+    match layout.locate(image.len(), block) {
+        Site::Nowhere(number) => Answer::Refused(number),
+        Site::At(shape, at) => {
+            if list.len() != block::words(shape) {
                 return Answer::Refused(7);
             }
-            let valid = block::encode(kind, data);
-            scatter(image, kind, at, s as usize, &valid);
+            let valid = block::encode(shape, list);
+            scatter(image, shape, at, layout.s as usize, &valid);
             Answer::Stored
         }
     }

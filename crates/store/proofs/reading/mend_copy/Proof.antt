@@ -14,8 +14,8 @@ use Rattle.store.proofs.Verdicts.{not-mended}
 use Rattle.store.proofs.reading.mend_copy.Statement.{statement}
 use Rattle.store.proofs.reading.mend_copy.Tie as tie
 
-long : (c : tie.Start) → rows (c .args .kind) ≤ length (c .args .copy .now)
-long c = rw (c .pre) (rows-fit (c .args .kind))
+long : (c : tie.Start) → rows (c .args .shape) ≤ length (c .args .copy .now)
+long c = rw (c .pre) (rows-fit (c .args .shape))
 
 valid-requires : tie.Need-valid-requires
 valid-requires c κs = search needs
@@ -26,7 +26,7 @@ same-length c = search needs
 returns : tie.Need-returns
 returns c =
     let start = c .before .before .before .before in
-    let says = valid-clean (start .args .kind) 0 (start .args .copy .now) (sym (c .before .valid .ensures) ∙ c .if1 .taken) in
+    let says = valid-clean (start .args .shape) 0 (start .args .copy .now) (sym (c .before .valid .ensures) ∙ c .if1 .taken) in
     (says, sym (not-mended _ _ _ says (long start) (hit (0 ∷ 2 ∷ []) 0 tt)))
 
 mend-requires : tie.Need-mend-requires

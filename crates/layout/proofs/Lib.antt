@@ -1,0 +1,4 @@
+pub mod Shapes
+pub mod Index
+pub mod Ladder
+pub mod Sites

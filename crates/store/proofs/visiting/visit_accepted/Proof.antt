@@ -1,0 +1,74 @@
+-- `store::visiting::visit_accepted` meets its contract: refused, valid where it lies, or mended. Assumes nothing.
+use mathlib.Core.Path.{refl, sym, _∙_}
+use borrow.Author.Needs.{needs}
+use lib.ListN.{length}
+use Rattle.layout.proofs.Sites.{Located, located, refused}
+use Rattle.store.proofs.Calls.{visit-refused, visit-found, visit-clean, accepts}
+use Rattle.store.proofs.Located.{inside}
+use Rattle.store.proofs.Strides.{clean-there}
+use Rattle.store.proofs.visiting.visit_accepted.Statement.{statement}
+use Rattle.store.proofs.visiting.visit_accepted.Tie as tie
+
+-- the block has a site
+abbrev start : tie.After-known-told → tie.Start
+start c = c .before .before .before .before .before
+
+site : (c : tie.After-known-told)
+    → Located (length (start c .args .image .now)) (start c .args .layout) (start c .args .block) (c .before .shape .given .0 .0) (c .before .shape .given .0 .1 .0)
+site c = located _ _ _ _ _ (sym (c .before .before .before .locate .ensures) ∙ c .before .shape .given .1)
+
+locate-requires : tie.Need-locate-requires
+locate-requires c κs = search needs
+
+enum-told : tie.Need-enum-told
+enum-told c = search needs
+
+enum-known-shape : tie.Need-enum-known-shape
+enum-known-shape c = search needs
+
+valid-requires : tie.Need-valid-requires
+valid-requires c κs = search needs
+
+same-length : tie.Need-same-length
+same-length c = search needs
+
+returns : tie.Need-returns
+returns c =
+    let there = sym (c .before .valid .ensures) ∙ c .if2 .taken in
+    accepts (visit-clean _ (site (c .before .before .before .before)) (clean-there _ _ _ _ there (c .before .before .before .if1 .taken)))
+
+cast-mend : tie.Need-cast-mend
+cast-mend c = search needs
+
+mend-requires : tie.Need-mend-requires
+mend-requires c κs = inside _ _ _ (site (c .before .before))
+
+returns-2 : tie.Need-returns-2
+returns-2 c =
+    let r = refused _ _ _ _ (sym (c .before .before .locate .ensures) ∙ c .enum-told .given .1) in
+    accepts (visit-refused _ _ _ _ (r .0) (r .1))
+
+same-length-2 : tie.Need-same-length-2
+same-length-2 c = search needs
+
+returns-3 : tie.Need-returns-3
+returns-3 c =
+    let p = site (c .before .before .before .before .before) in
+    let mends = c .before .before .mend .ensures in
+    accepts (visit-found _ p _ refl _ (mends .0) _ (mends .1))
+
+pub visit-accepted-spec : {M : Type 1} → statement M
+visit-accepted-spec =
+    tie.close
+    (tie.spec
+    locate-requires
+    enum-told
+    enum-known-shape
+    valid-requires
+    same-length
+    returns
+    cast-mend
+    mend-requires
+    returns-2
+    same-length-2
+    returns-3)
