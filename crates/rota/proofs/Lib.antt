@@ -1,5 +1,6 @@
 pub mod Waiting
 pub mod Places
+pub mod Lines
 pub mod Plans
 pub mod Entries
 pub mod Numbers

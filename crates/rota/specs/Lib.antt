@@ -1,5 +1,4 @@
-pub mod Ladder
-pub mod Waiting
+pub mod Line
 pub mod Plan
 pub mod Asking
 pub mod Turning
