@@ -80,9 +80,9 @@ module _ (n : ℕ) (r : Rota) (long : length (r .line .asks) ≡ places) (ok : u
   -- ---- ask
 
   module _ (b : ℕ) where
-    pub ask-outside : n ≤ b → record { place = NoPlace 6; rota = r } ≡ rotaAsked n r b
+    pub ask-block-outside : n ≤ b → record { place = NoPlace 6; rota = r } ≡ rotaAsked n r b
     unfolding rotaAsked askNumber askRefusal
-    ask-outside h = rw (ok, le-ltb b n h)
+    ask-block-outside h = rw (ok, le-ltb b n h)
 
     module _ (h : b < n) where
       pub ask-again : (k : ℕ) → k ≡ place b (asksOf (r .line)) → (k ≡ 0 → ⊥) → record { place = Given k; rota = r } ≡ rotaAsked n r b

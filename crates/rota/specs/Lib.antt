@@ -3,6 +3,8 @@ pub mod Plan
 pub mod Asking
 pub mod Turning
 pub mod Record
+pub mod Broken
+pub mod Reason
 pub mod Numbers
 pub mod Steps
 pub mod Touches

@@ -7,7 +7,7 @@ use lib.ListN.{length}
 use Rattle.rota.specs.Line.{places, place, full, asksOf}
 use Rattle.rota.specs.Record.{unbroken}
 use Rattle.rota.proofs.Lines.{full-is}
-use Rattle.rota.proofs.Entries.{line-fit, line-tidy, ask-broken, ask-outside, ask-again, ask-full, ask-new}
+use Rattle.rota.proofs.Entries.{line-fit, line-tidy, ask-broken, ask-block-outside, ask-again, ask-full, ask-new}
 use Rattle.rota.proofs.Rota.ask.Statement.{statement}
 use Rattle.rota.proofs.Rota.ask.Tie as tie
 
@@ -35,7 +35,7 @@ unbroken-requires : tie.Need-unbroken-requires
 unbroken-requires c κs = search needs
 
 returns : tie.Need-returns
-returns c = ask-outside _ _ (long (c .before)) (ok (c .before)) _ (c .if2 .taken)
+returns c = ask-block-outside _ _ (long (c .before)) (ok (c .before)) _ (c .if2 .taken)
 
 place-of-requires : tie.Need-place-of-requires
 place-of-requires c κs = line-fit _ _ (ok (c .before .before)) .few
