@@ -69,18 +69,32 @@ pub then-zero : (number later : ℕ) → number then later ≡ 0 → (number ≡
 then-zero zero later e = (refl, e)
 then-zero (suc number) later e = absurd (omega arith)
 
+-- two ladders, one after the other, are the ladder of both lists of rules
+pub first-then : (rules more : List Rule) (number later : ℕ)
+    → T (numbered? rules)
+    → FirstOf rules number
+    → FirstOf more later
+    → FirstOf (rules ++ more) (number then later)
+first-then [] more number later t first rest = rw first rest
+first-then (one ∷ rules) more number later t first rest =
+    ⊎-elim
+    (λ r. inl (r .0, then-first number later (λ z. first-numbered (one .number) (numbered? rules) t (sym (r .1) ∙ z)) ∙ r .1))
+    (λ r. inr (r .0, first-then rules more number later (right-part (not (eqb (one .number) 0)) (numbered? rules) t) (r .1) rest))
+    first
+
 -- one rung more at the end of a ladder
 pub first-more : (rules : List Rule) (rule : Rule) (number later : ℕ)
     → T (numbered? rules)
     → FirstOf rules number
     → Rung rule later
     → FirstOf (rules ++ rule ∷ []) (number then later)
-first-more [] rule number later t first rung = rw first rung
-first-more (one ∷ rules) rule number later t first rung =
-    ⊎-elim
-    (λ r. inl (r .0, then-first number later (λ z. first-numbered (one .number) (numbered? rules) t (sym (r .1) ∙ z)) ∙ r .1))
-    (λ r. inr (r .0, first-more rules rule number later (right-part (not (eqb (one .number) 0)) (numbered? rules) t) (r .1) rung))
-    first
+first-more rules rule number later t first rung = first-then rules (rule ∷ []) number later t first rung
+
+-- one rung more in front, whose test fails for the rule's reason
+pub first-told : (rule : Rule) (rules : List Rule) (later : ℕ) {t : Bool} → Told (rule .reason) t → FirstOf rules later
+    → FirstOf (rule ∷ rules) (rule .number when not t else later)
+first-told rule rules later (holds p) first = inl (p, refl)
+first-told rule rules later (fails p) first = inr (p, first)
 
 -- where a rung answers 0 its reason does not hold
 pub rung-passed : (rule : Rule) (number : ℕ) → (rule .number ≡ 0 → ⊥) → Rung rule number → number ≡ 0 → rule .reason → ⊥

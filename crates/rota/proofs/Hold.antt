@@ -10,7 +10,7 @@ use lib.Dec.{eqb}
 use borrow.Author.Tests.{eq-eqb, ne-eqb}
 use Rattle.rota.specs.Plan.{Plan, start}
 use Rattle.rota.specs.Turning.{onward, dueOf, due}
-use Rattle.rota.specs.Record.{fresh, rotaOf, turned}
+use Rattle.rota.specs.Record.{fresh, rotaOf, rotaTurned}
 use Rattle.rota.specs.Steps.{ask, turn, other, tick, turns, rotaStep}
 use Rattle.rota.specs.Touches.{Touch, write, read, visit, flip, nothing, overwritten, meant, lastWritten}
 use Rattle.rota.specs.Memory.{Memory}
@@ -39,7 +39,7 @@ module _ {n : ℕ} (M : Memory n) where
 
   step-good : (x : StepOf M) (r : Rota) (m : M .State) → M .Good m → M .Good (memoryStep M x r m)
   step-good (ask b) r m g = g
-  step-good turn r m g = visited-good (turned n r .due) m g
+  step-good turn r m g = visited-good (rotaTurned n r .due) m g
   step-good (other x) r m g = touched-good x m g
 
   run-good : (l : List (StepOf M)) (r : Rota) (m : M .State) → M .Good m → M .Good (memoryRun M l r m)
@@ -135,17 +135,16 @@ module _ {n : ℕ} (M : Memory n) where
         go zero e a = absurd (ne (sym (away-zero n (p .next) (M .block u) (s .inside) a)))
         go (suc j) e a = aged done (p .next) (onward n (p .next)) j turn u q (omega arith) (away-step n (p .next) (M .block u) j (s .inside) l a)
 
-    after-turn : (asks : List ℕ) → Held (Hurt (done ++ turn ∷ []) (onward n (p .next))) w (visited M (dueOf (p .next) asks) m)
-    after-turn asks = go asks
-      where
-        one : Held (Hurt (done ++ turn ∷ []) (onward n (p .next))) w (M .visit (p .next) m)
-        one = held-visit (Hurt done (p .next)) (Hurt (done ++ turn ∷ []) (onward n (p .next))) w m (p .next) past good h
+    -- what is left to mend after the turn
+    abbrev Left : M .Lane → Type 0
+    Left = Hurt (done ++ turn ∷ []) (onward n (p .next))
 
-        go : (asks : List ℕ) → Held (Hurt (done ++ turn ∷ []) (onward n (p .next))) w (visited M (dueOf (p .next) asks) m)
-        go [] = one
-        go (b ∷ asks) =
-            held-visit (Hurt (done ++ turn ∷ []) (onward n (p .next))) (Hurt (done ++ turn ∷ []) (onward n (p .next))) w (M .visit (p .next) m) b (λ u l ne q. q)
-            (M .visit-good (p .next) m good) one
+    after-first : Held Left w (M .visit (p .next) m)
+    after-first = held-visit (Hurt done (p .next)) Left w m (p .next) past good h
+
+    after-turn : (asks : List ℕ) → Held Left w (visited M (dueOf (p .next) asks) m)
+    after-turn [] = after-first
+    after-turn (b ∷ asks) = held-visit Left Left w (M .visit (p .next) m) b (λ u l ne q. q) (M .visit-good (p .next) m good) after-first
 
     after-touch : (x : Touch (M .Data) (M .Flip)) → Spaced M (done ++ other x ∷ [])
         → Held (Hurt (done ++ other x ∷ []) (p .next)) (λ c. overwritten c (w c) x) (touched M x m)

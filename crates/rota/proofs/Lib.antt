@@ -1,7 +1,11 @@
 pub mod Waiting
 pub mod Places
+pub mod Lines
 pub mod Plans
 pub mod Entries
+pub mod ListTold
+pub mod Broken
+pub mod Reasons
 pub mod Numbers
 pub mod Ranges
 pub mod Runs

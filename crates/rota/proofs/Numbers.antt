@@ -1,15 +1,15 @@
--- The numbers of an answer are those of its call's refusals, they tell the answers apart, and no refusal has the number 0.
+-- The numbers of an answer are those of its call's refusals, they tell the answers noneTwice, and no refusal has the number 0.
 -- Assumes nothing.
 use Prim.Native.Nat.{ℕ, zero, suc}
 use mathlib.Core.Bool.{true≢false, false≢true}
 use mathlib.Core.Path.{_≡_, refl, sym, ap, ap₂}
 use mathlib.Core.List.{List, [], _∷_}
 use native.Mathlib.Omega.{arith}
-use lib.ListN.{take}
-use Rattle.rota.specs.Ladder.{unlessRefused}
+use Rattle.ground.specs.Choice.{ifZero}
+use Rattle.rota.specs.Line.{asksOf}
 use Rattle.rota.specs.Asking.{askPlace, joined}
-use Rattle.rota.specs.Turning.{dueOf, turnAfter}
-use Rattle.rota.specs.Record.{planOf, rotaOf, askNumber, asked, turnNumber, turned}
+use Rattle.rota.specs.Turning.{dueOf, movedOn}
+use Rattle.rota.specs.Record.{planOf, rotaOf, askNumber, rotaAsked, turnNumber, rotaTurned}
 use Rattle.rota.specs.Numbers.{placeNumber, placeGiven, dueNumber, firstBlock, secondBlock, served}
 use Rattle.rota.specs.declared.Rota.{Rota}
 use Rattle.rota.specs.declared.Place.{Place}
@@ -44,22 +44,22 @@ module _ (n : ℕ) (r : Rota) where
     -- the answer, by the number of the refusal
     abbrev answerBy : ℕ → Asked
     answerBy number =
-        unlessRefused number (record { place = Given (askPlace (planOf r) b); rota = rotaOf (joined (planOf r) b) }) (record { place = NoPlace number; rota = r })
+        ifZero number (record { place = Given (askPlace (planOf r) b); rota = rotaOf (joined (planOf r) b) }) (record { place = NoPlace number; rota = r })
 
-    pub ask-number : placeNumber (asked n r b .place) ≡ askNumber n r b
-    unfolding asked
+    pub ask-number : placeNumber (rotaAsked n r b .place) ≡ askNumber n r b
+    unfolding rotaAsked
     ask-number = go (askNumber n r b)
       where
         go : (v : ℕ) → placeNumber (answerBy v .place) ≡ v
         go zero = refl
         go (suc v) = refl
 
-    pub ask-refused : (v : ℕ) → askNumber n r b ≡ suc v → asked n r b ≡ record { place = NoPlace (suc v); rota = r }
-    unfolding asked
+    pub ask-refused : (v : ℕ) → askNumber n r b ≡ suc v → rotaAsked n r b ≡ record { place = NoPlace (suc v); rota = r }
+    unfolding rotaAsked
     ask-refused v e = ap answerBy e
 
-    pub ask-numbered : asked n r b .place ≡ NoPlace 0 → ⊥
-    unfolding asked
+    pub ask-numbered : rotaAsked n r b .place ≡ NoPlace 0 → ⊥
+    unfolding rotaAsked
     ask-numbered = go (askNumber n r b)
       where
         go : (v : ℕ) → answerBy v .place ≡ NoPlace 0 → ⊥
@@ -71,24 +71,24 @@ module _ (n : ℕ) (r : Rota) where
   -- the answer, by the number of the refusal and the waiting list
   abbrev turnBy : ℕ → List ℕ → Turned
   turnBy number l =
-      unlessRefused number (record { due = dueOf (r .next) l; rota = rotaOf (turnAfter n (planOf r)) }) (record { due = NoneDue number; rota = r })
+      ifZero number (record { due = dueOf (r .next) l; rota = rotaOf (movedOn n (planOf r)) }) (record { due = NoneDue number; rota = r })
 
-  pub turn-number : dueNumber (turned n r .due) ≡ turnNumber n r
-  unfolding turned
-  turn-number = go (turnNumber n r) (take (r .waiting) (r .asks))
+  pub turn-number : dueNumber (rotaTurned n r .due) ≡ turnNumber n r
+  unfolding rotaTurned
+  turn-number = go (turnNumber n r) (asksOf (r .line))
     where
       go : (v : ℕ) (l : List ℕ) → dueNumber (turnBy v l .due) ≡ v
       go zero [] = refl
       go zero (a ∷ l) = refl
       go (suc v) l = refl
 
-  pub turn-refused : (v : ℕ) → turnNumber n r ≡ suc v → turned n r ≡ record { due = NoneDue (suc v); rota = r }
-  unfolding turned
-  turn-refused v e = ap (λ (w : ℕ). turnBy w (take (r .waiting) (r .asks))) e
+  pub turn-refused : (v : ℕ) → turnNumber n r ≡ suc v → rotaTurned n r ≡ record { due = NoneDue (suc v); rota = r }
+  unfolding rotaTurned
+  turn-refused v e = ap (λ (w : ℕ). turnBy w (asksOf (r .line))) e
 
-  pub turn-numbered : turned n r .due ≡ NoneDue 0 → ⊥
-  unfolding turned
-  turn-numbered = go (turnNumber n r) (take (r .waiting) (r .asks))
+  pub turn-numbered : rotaTurned n r .due ≡ NoneDue 0 → ⊥
+  unfolding rotaTurned
+  turn-numbered = go (turnNumber n r) (asksOf (r .line))
     where
       go : (v : ℕ) (l : List ℕ) → turnBy v l .due ≡ NoneDue 0 → ⊥
       go zero [] e = let z : _≡_ {A = ℕ} 0 1 = cc in omega arith

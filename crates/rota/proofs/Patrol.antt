@@ -1,5 +1,5 @@
 -- What holds of every list of steps from the fresh record, and over a fresh memory: every turn is accepted, n turns running visit
--- every block, an ask is served by the turn that its place says, and every read is right where flips are far enough apart.
+-- every block, an ask is served by the turn that its place says, and every read is right where flips are far enough noneTwice.
 -- Assumes nothing.
 use Prim.Native.Nat.{ℕ, zero, suc, _+_, _-_, _≤_, _<_}
 use mathlib.Core.Path.{_≡_, refl, ap, _∙_}
@@ -8,7 +8,7 @@ use native.Mathlib.Omega.{arith}
 use Rattle.rota.specs.Plan.{Plan, start}
 use Rattle.rota.specs.Asking.{askRefusal, askPlace}
 use Rattle.rota.specs.Turning.{dueOf}
-use Rattle.rota.specs.Record.{asked}
+use Rattle.rota.specs.Record.{rotaAsked}
 use Rattle.rota.specs.Numbers.{dueNumber, firstBlock}
 use Rattle.rota.specs.Steps.{Step, ask, turn, other, turns, rotaAt, dueAt}
 use Rattle.rota.specs.Touches.{read, flip, lastWritten}
@@ -62,7 +62,7 @@ module _ {Other : Type 0} where
               ∙ r .here,
         )
 
-    module _ (pre : List (Step Other)) (b k : ℕ) (e : asked n (rotaAt n pre) b .place ≡ Given k) where
+    module _ (pre : List (Step Other)) (b k : ℕ) (e : rotaAsked n (rotaAt n pre) b .place ≡ Given k) where
       given : (askRefusal n (planAt n pre) b ≡ 0) × (askPlace (planAt n pre) b ≡ k)
       given = asked-given n (planAt n pre) (plan-sound n some pre) b k (rw (rota-runs n some pre) at e)
 

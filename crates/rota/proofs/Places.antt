@@ -1,17 +1,17 @@
--- The places of the array, passed one by one as the code does. Assumes nothing.
+-- The places of a line's array, passed one by one as the code does. Assumes nothing.
 use Prim.Native.Nat.{ℕ, zero, suc, _+_, _-_, _≤_, _<_}
 use mathlib.Core.Bool.{Bool, true, false, _&&_, and-false}
 use mathlib.Core.Path.{_≡_, refl, sym, ap, ap₂, _∙_}
 use mathlib.Core.List.{List, [], _∷_, _++_}
 use native.Mathlib.Omega.{arith}
 use native.Mathlib.Numerals.{add-one}
-use lib.ListN.{length, getD, take, drop, set, replicate, length-drop}
+use lib.ListN.{length, getD, take, drop, set, replicate, length-drop, length-replicate}
 use lib.Seq.{split-at, take-take, getD-take, getD-drop, take-suc, drop-cons, length-take-le, paste, paste-suc, take-all}
 use lib.Dec.{eqb}
 use borrow.Author.Tests.{ne-eqb, eqb-true, lt-ltb}
-use Rattle.rota.specs.Waiting.{place, below, apart}
-use Rattle.rota.specs.Record.{zeros}
-use Rattle.rota.proofs.Waiting.{both, place-snoc, below-snoc, apart-snoc, place-found, below-no, apart-no}
+use Rattle.ground.proofs.Bools.{both}
+use Rattle.rota.specs.Line.{place, below, noneTwice, zeros}
+use Rattle.rota.proofs.Waiting.{place-snoc, below-snoc, once-snoc, place-found, below-no, once-no}
 
 -- ---- the places in use
 
@@ -40,21 +40,22 @@ place-next b l i h z ne = ap (place b) (passed l i h) ∙ place-snoc b (getD l i
 pub below-next : (n : ℕ) (l : List ℕ) (i : ℕ) → i < length l → below n (take i l) ≡ true → getD l i 0 < n → below n (take (i + 1) l) ≡ true
 below-next n l i h z q = ap (below n) (passed l i h) ∙ below-snoc n (getD l i 0) (take i l) z (lt-ltb (getD l i 0) n q)
 
-pub apart-next : (l : List ℕ) (i : ℕ) → i < length l → apart (take i l) ≡ true → place (getD l i 0) (take i l) ≡ 0 → apart (take (i + 1) l) ≡ true
-apart-next l i h z q = ap apart (passed l i h) ∙ apart-snoc (getD l i 0) (take i l) z q
+pub once-next : (l : List ℕ) (i : ℕ) → i < length l → noneTwice (take i l) ≡ true → place (getD l i 0) (take i l) ≡ 0
+    → noneTwice (take (i + 1) l) ≡ true
+once-next l i h z q = ap noneTwice (passed l i h) ∙ once-snoc (getD l i 0) (take i l) z q
 
-pub below-fails : (n : ℕ) (l : List ℕ) (i k : ℕ) → i < k → k ≤ length l → n ≤ getD l i 0 → false ≡ (below n (take k l) && apart (take k l))
+pub below-fails : (n : ℕ) (l : List ℕ) (i k : ℕ) → i < k → k ≤ length l → n ≤ getD l i 0 → false ≡ (below n (take k l) && noneTwice (take k l))
 below-fails n l i k h g q =
     sym
-    (ap (λ (t : Bool). t && apart (take k l))
+    (ap (λ (t : Bool). t && noneTwice (take k l))
     (ap (below n) (parted l i k h g) ∙ below-no n (getD l i 0) (take i l) (drop (suc i) (take k l)) q))
 
-pub apart-fails : (n : ℕ) (l : List ℕ) (i k : ℕ) → i < k → k ≤ length l → (place (getD l i 0) (take i l) ≡ 0 → ⊥)
-    → false ≡ (below n (take k l) && apart (take k l))
-apart-fails n l i k h g q =
+pub once-fails : (n : ℕ) (l : List ℕ) (i k : ℕ) → i < k → k ≤ length l → (place (getD l i 0) (take i l) ≡ 0 → ⊥)
+    → false ≡ (below n (take k l) && noneTwice (take k l))
+once-fails n l i k h g q =
     sym
     (ap (λ (t : Bool). below n (take k l) && t)
-    (ap apart (parted l i k h g) ∙ apart-no (getD l i 0) (take i l) (drop (suc i) (take k l)) q)
+    (ap noneTwice (parted l i k h g) ∙ once-no (getD l i 0) (take i l) (drop (suc i) (take k l)) q)
     ∙ and-false (below n (take k l)))
 
 -- ---- the unused places
@@ -79,7 +80,7 @@ pub zeros-next : (l : List ℕ) (i : ℕ) → i < length l → zeros (drop (suc 
 unfolding zeros
 zeros-next l i h z e = rw (drop-cons l i 0 h, e, z)
 
-zeros-replicate : (l : List ℕ) → zeros l ≡ true → l ≡ replicate (length l) 0
+pub zeros-replicate : (l : List ℕ) → zeros l ≡ true → l ≡ replicate (length l) 0
 unfolding zeros
 zeros-replicate [] e = refl
 zeros-replicate (a ∷ l) e =
@@ -91,22 +92,31 @@ unfolding zeros
 replicate-zeros zero = refl
 replicate-zeros (suc k) = replicate-zeros k
 
-pub unused-is : (l : List ℕ) (w : ℕ) → length l ≡ 16 → zeros (drop w l) ≡ true → drop w l ≡ replicate (16 - w) 0
-unused-is l w e z = zeros-replicate (drop w l) z ∙ ap (λ (k : ℕ). replicate k 0) (length-drop w l ∙ ap (λ (k : ℕ). k - w) e)
-
 -- ---- all places moved up
 
-pub move-next : (l : List ℕ) (i : ℕ) → length l ≡ 16 → i < 15
-    → set (paste (replicate 16 0) 0 (drop 1 l) i) i (getD l (i + 1) 0) ≡ paste (replicate 16 0) 0 (drop 1 l) (i + 1)
-move-next l i e h =
-    let d = length-drop 1 l in
-    let z : 0 + i ≡ i = omega arith in
-    let o : 1 + i ≡ i + 1 = omega arith in
-    ap₂ (λ (k v : ℕ). set (paste (replicate 16 0) 0 (drop 1 l) i) k v) (sym z) (sym (getD-drop 1 l i 0 ∙ ap (λ (k : ℕ). getD l k 0) o))
-    ∙ paste-suc (replicate 16 0) 0 (drop 1 l) i 0 (omega arith) (omega arith)
-    ∙ ap (λ (k : ℕ). paste (replicate 16 0) 0 (drop 1 l) k) (sym (add-one i))
+one-left : (k : ℕ) → drop k (replicate {A = ℕ} (suc k) 0) ≡ 0 ∷ []
+one-left zero = refl
+one-left (suc k) = one-left k
 
-pub move-end : (l : List ℕ) (i : ℕ) → length l ≡ 16 → i ≡ 15 → paste (replicate 16 0) 0 (drop 1 l) i ≡ drop 1 l ++ (0 ∷ [])
-move-end l i e h =
-    let d = length-drop 1 l in
-    ap (λ (k : ℕ). paste (replicate 16 0) 0 (drop 1 l) k) h ∙ ap (λ (x : List ℕ). x ++ (0 ∷ [])) (take-all 15 (drop 1 l) (omega arith))
+-- the first i blocks moved up, and 0 in the other places
+abbrev pub movedFirst : ℕ → List ℕ → ℕ → List ℕ
+movedFirst capacity l i = paste (replicate capacity 0) 0 (drop 1 l) i
+
+module _ (capacity : ℕ) (l : List ℕ) (long : length l ≡ capacity) where
+  pub move-next : (i : ℕ) → i < capacity - 1 → set (movedFirst capacity l i) i (getD l (i + 1) 0) ≡ movedFirst capacity l (i + 1)
+  move-next i h =
+      let d = length-drop 1 l in
+      let r = length-replicate {A = ℕ} capacity 0 in
+      let z : 0 + i ≡ i = omega arith in
+      let o : 1 + i ≡ i + 1 = omega arith in
+      ap₂ (λ (k v : ℕ). set (movedFirst capacity l i) k v) (sym z) (sym (getD-drop 1 l i 0 ∙ ap (λ (k : ℕ). getD l k 0) o))
+      ∙ paste-suc (replicate capacity 0) 0 (drop 1 l) i 0 (omega arith) (omega arith)
+      ∙ ap (movedFirst capacity l) (sym (add-one i))
+
+  pub move-end : (i : ℕ) → 0 < capacity → i ≡ capacity - 1 → movedFirst capacity l i ≡ drop 1 l ++ (0 ∷ [])
+  move-end i some h =
+      let d = length-drop 1 l in
+      let e : capacity ≡ suc i = omega arith in
+      let z : 0 + i ≡ i = omega arith in
+      ap₂ (λ (x y : List ℕ). x ++ y) (take-all i (drop 1 l) (omega arith))
+      (ap₂ (λ (k j : ℕ). drop k (replicate {A = ℕ} j 0)) z e ∙ one-left i)

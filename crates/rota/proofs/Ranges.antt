@@ -1,26 +1,26 @@
--- What an accepted call answers is in range, for every record: a place is from 1 to 16, and a block is below n. Assumes nothing.
+-- What an accepted call answers is in range, for every record: a place is from 1 to as many as there are, and a block is below n. Assumes nothing.
 use Prim.Native.Nat.{ℕ, zero, suc, _≤_, _<_}
 use mathlib.Core.Bool.{Bool, true, false, not}
 use mathlib.Core.Path.{_≡_, refl}
 use mathlib.Core.List.{List, [], _∷_}
 use native.Mathlib.Omega.{arith}
-use lib.ListN.{take}
 use lib.Dec.{ltb}
 use borrow.Author.Tests.{ltb-true}
-use Rattle.rota.specs.Ladder.{_when_else_, unlessRefused}
-use Rattle.rota.specs.Waiting.{below}
+use Rattle.ground.specs.Choice.{ifZero}
+use Rattle.ground.specs.Ladder.{_when_else_}
+use Rattle.ground.proofs.Bools.{both}
+use Rattle.rota.specs.Line.{places, below, asksOf}
 use Rattle.rota.specs.Asking.{askRefusal, askPlace, joined}
-use Rattle.rota.specs.Turning.{dueOf, due, turnAfter}
-use Rattle.rota.specs.Record.{unbroken, planOf, rotaOf, askNumber, asked, turnNumber, turned}
+use Rattle.rota.specs.Turning.{dueOf, due, movedOn}
+use Rattle.rota.specs.Record.{unbroken, planOf, rotaOf, askNumber, rotaAsked, turnNumber, rotaTurned}
 use Rattle.rota.specs.Numbers.{dueNumber, firstBlock, secondBlock}
 use Rattle.rota.specs.declared.Rota.{Rota}
 use Rattle.rota.specs.declared.Place.the-variants.{Given, Refused as NoPlace}
 use Rattle.rota.specs.declared.Asked.{Asked}
 use Rattle.rota.specs.declared.Due.the-variants.{Refused as NoneDue}
 use Rattle.rota.specs.declared.Turned.{Turned}
-use Rattle.rota.proofs.Waiting.{both}
 use Rattle.rota.proofs.Plans.{ask-place}
-use Rattle.rota.proofs.Entries.{unbroken-true}
+use Rattle.rota.proofs.Entries.{plan-fit}
 
 dues-inside : (n next : ℕ) (asks : List ℕ) → next < n → below n asks ≡ true → (firstBlock (dueOf next asks) < n) × (secondBlock (dueOf next asks) < n)
 unfolding below
@@ -28,29 +28,29 @@ dues-inside n next [] h e = (h, omega arith)
 dues-inside n next (b ∷ asks) h e = (h, ltb-true b n (both (ltb b n) (below n asks) e .0))
 
 module _ (n : ℕ) (r : Rota) where
-  pub ask-placed : (b k : ℕ) → asked n r b .place ≡ Given k → (1 ≤ k) × (k ≤ 16)
-  unfolding asked askNumber
+  pub ask-placed : (b k : ℕ) → rotaAsked n r b .place ≡ Given k → (1 ≤ k) × (k ≤ places)
+  unfolding rotaAsked askNumber
   ask-placed b k e = go (unbroken n r) refl (askRefusal n (planOf r) b) refl e
     where
       go : (t : Bool) → unbroken n r ≡ t → (v : ℕ) → askRefusal n (planOf r) b ≡ v
-          → unlessRefused {A = Asked} (5 when not t else v) (record { place = Given (askPlace (planOf r) b); rota = rotaOf (joined (planOf r) b) })
+          → ifZero {A = Asked} (5 when not t else v) (record { place = Given (askPlace (planOf r) b); rota = rotaOf (joined (planOf r) b) })
           (record { place = NoPlace (5 when not t else v); rota = r }) .place ≡ Given k
-          → (1 ≤ k) × (k ≤ 16)
+          → (1 ≤ k) × (k ≤ places)
       go true ok zero z e =
           let q : askPlace (planOf r) b ≡ k = cc in
-          rw (← q) (ask-place n (planOf r) b (unbroken-true n r ok .sound) z)
+          rw (← q) (ask-place n (planOf r) b (plan-fit n r ok) z)
       go true ok (suc v) z e = let w : _≡_ {A = ℕ} 0 1 = cc in absurd (omega arith)
       go false ok v z e = let w : _≡_ {A = ℕ} 0 1 = cc in absurd (omega arith)
 
-  pub due-inside : dueNumber (turned n r .due) ≡ 0 → (firstBlock (turned n r .due) < n) × (secondBlock (turned n r .due) < n)
-  unfolding turned turnNumber
+  pub due-inside : dueNumber (rotaTurned n r .due) ≡ 0 → (firstBlock (rotaTurned n r .due) < n) × (secondBlock (rotaTurned n r .due) < n)
+  unfolding rotaTurned turnNumber
   due-inside e = go (unbroken n r) refl e
     where
       answer : Bool → Turned
       answer t =
-          unlessRefused (5 when not t else 0) (record { due = due (planOf r); rota = rotaOf (turnAfter n (planOf r)) })
+          ifZero (5 when not t else 0) (record { due = due (planOf r); rota = rotaOf (movedOn n (planOf r)) })
           (record { due = NoneDue (5 when not t else 0); rota = r })
 
       go : (t : Bool) → unbroken n r ≡ t → dueNumber (answer t .due) ≡ 0 → (firstBlock (answer t .due) < n) × (secondBlock (answer t .due) < n)
-      go true ok e = let s = unbroken-true n r ok .sound in dues-inside n (r .next) (take (r .waiting) (r .asks)) (s .inside) (s .low)
+      go true ok e = let s = plan-fit n r ok in dues-inside n (r .next) (asksOf (r .line)) (s .inside) (s .low)
       go false ok e = absurd (omega arith)

@@ -8,7 +8,7 @@ use native.Mathlib.Omega.{arith}
 use lib.Dec.{leb}
 use borrow.Author.Tests.{leb-true, leb-false}
 use Rattle.rota.specs.Plan.{Plan}
-use Rattle.rota.specs.Turning.{onward, turnAfter}
+use Rattle.rota.specs.Turning.{onward, movedOn}
 use Rattle.rota.specs.Steps.{Step, ask, turn, other, turns}
 use Rattle.rota.proofs.Plans.{Sound, ask-adds, ask-sound, turn-sound, onward-cases, askAfter}
 use Rattle.rota.proofs.Runs.{planStep, planRun}
@@ -54,5 +54,5 @@ module _ {Other : Type 0} (n : ℕ) where
   reached (ask c ∷ l) p b j s h a t = later (ask c) p l b (reached l (askAfter n p c) b j (ask-sound n p c s) h (rw (ask-adds n p c .2) a) t)
   reached (turn ∷ l) p b zero s h a t = record { before = []; after = l; split = refl; here = away-zero n (p .next) b (s .inside) a }
   reached (turn ∷ l) p b (suc j) s h a t =
-      later turn p l b (reached l (turnAfter n p) b j (turn-sound n p s) h (away-step n (p .next) b j (s .inside) h a) (omega arith))
+      later turn p l b (reached l (movedOn n p) b j (turn-sound n p s) h (away-step n (p .next) b j (s .inside) h a) (omega arith))
   reached (other x ∷ l) p b j s h a t = later (other x) p l b (reached l p b j s h a t)

@@ -1,72 +1,57 @@
 -- The record runs as its plan does: from a sound plan, whatever the steps, it is the record of the plan. Assumes nothing.
-use Prim.Native.Nat.{ℕ, zero, suc, _+_, _-_, _≤_}
+use Prim.Native.Nat.{ℕ, zero, suc, _+_, _≤_}
 use mathlib.Core.Bool.{true}
 use mathlib.Core.Path.{_≡_, refl, ap, _∙_}
 use mathlib.Core.List.{List, [], _∷_, _++_}
 use native.Mathlib.Omega.{arith}
-use lib.ListN.{length, take, replicate}
-use lib.Seq.{take-append-seam, drop-append-seam}
-use borrow.Author.Tests.{lt-ltb, le-leb}
-use Rattle.rota.specs.Ladder.{unlessRefused}
+use borrow.Author.Tests.{lt-ltb}
+use Rattle.ground.specs.Choice.{ifZero}
+use Rattle.rota.specs.Line.{places}
 use Rattle.rota.specs.Plan.{Plan, start}
 use Rattle.rota.specs.Asking.{askRefusal, askPlace, joined}
-use Rattle.rota.specs.Turning.{due, turnAfter}
-use Rattle.rota.specs.Record.{unbroken, rotaOf, askNumber, asked, turnNumber, turned}
+use Rattle.rota.specs.Turning.{due, movedOn}
+use Rattle.rota.specs.Record.{unbroken, rotaOf, askNumber, rotaAsked, turnNumber, rotaTurned}
 use Rattle.rota.specs.Steps.{Step, ask, turn, other, turns, rotaStep, rotaRun, rotaAt, dueAt}
 use Rattle.rota.specs.declared.Rota.{Rota}
-use Rattle.rota.specs.declared.Place.{Place}
 use Rattle.rota.specs.declared.Place.the-variants.{Given, Refused as NoPlace}
 use Rattle.rota.specs.declared.Asked.{Asked}
 use Rattle.rota.specs.declared.Turned.{Turned}
-use Rattle.rota.proofs.Places.{replicate-zeros}
+use Rattle.rota.proofs.Lines.{list-said, said-sound}
 use Rattle.rota.proofs.Plans.{Sound, start-sound, ask-sound, turn-sound, askAfter}
 
 -- ---- one call
 
-module _ (n : ℕ) (p : Plan) (s : Sound n p) where
-  list-same : take (length (p .asks)) (p .asks ++ replicate (16 - length (p .asks)) 0) ≡ p .asks
-  list-same = take-append-seam (p .asks) (replicate (16 - length (p .asks)) 0)
+-- the answer to an ask, by the number of its refusal
+abbrev pub answerBy : Plan → ℕ → ℕ → Asked
+answerBy p b number =
+    ifZero number (record { place = Given (askPlace p b); rota = rotaOf (joined p b) }) (record { place = NoPlace number; rota = rotaOf p })
 
+module _ (n : ℕ) (p : Plan) (s : Sound n p) where
   rota-unbroken : unbroken n (rotaOf p) ≡ true
   unfolding unbroken
-  rota-unbroken =
-      rw (
-        lt-ltb (p .next) n (s .inside),
-        le-leb (length (p .asks)) 16 (s .few),
-        list-same,
-        drop-append-seam (p .asks) (replicate (16 - length (p .asks)) 0),
-        s .low,
-        s .once,
-      )
-      (replicate-zeros (16 - length (p .asks)))
+  rota-unbroken = rw (lt-ltb (p .next) n (s .inside)) (said-sound places n (p .asks) (s .few) (s .low) (s .once))
 
-  pub asked-is : (b : ℕ)
-      → asked n (rotaOf p) b
-      ≡ unlessRefused (askRefusal n p b) (record { place = Given (askPlace p b); rota = rotaOf (joined p b) }) (record { place = NoPlace (askRefusal n p b); rota = rotaOf p })
-  unfolding asked askNumber
-  asked-is b = rw (rota-unbroken, list-same)
+  pub asked-is : (b : ℕ) → rotaAsked n (rotaOf p) b ≡ answerBy p b (askRefusal n p b)
+  unfolding rotaAsked askNumber
+  asked-is b = rw (rota-unbroken, list-said places (p .asks))
 
-  pub turned-is : turned n (rotaOf p) ≡ record { due = due p; rota = rotaOf (turnAfter n p) }
-  unfolding turned turnNumber
-  turned-is = rw (rota-unbroken, list-same)
+  pub turned-is : rotaTurned n (rotaOf p) ≡ record { due = due p; rota = rotaOf (movedOn n p) }
+  unfolding rotaTurned turnNumber
+  turned-is = rw (rota-unbroken, list-said places (p .asks))
 
-  asked-rota : (b : ℕ) → asked n (rotaOf p) b .rota ≡ rotaOf (askAfter n p b)
+  asked-rota : (b : ℕ) → rotaAsked n (rotaOf p) b .rota ≡ rotaOf (askAfter n p b)
   unfolding askAfter
-  asked-rota b = ap (λ (a : Asked). a .rota) (asked-is b) ∙ go (askRefusal n p b) (NoPlace (askRefusal n p b))
+  asked-rota b = ap (λ (a : Asked). a .rota) (asked-is b) ∙ go (askRefusal n p b)
     where
-      go : (v : ℕ) (a : Place)
-          → unlessRefused {A = Asked} v (record { place = Given (askPlace p b); rota = rotaOf (joined p b) }) (record { place = a; rota = rotaOf p }) .rota
-          ≡ rotaOf (unlessRefused v (joined p b) p)
-      go zero a = refl
-      go (suc v) a = refl
+      go : (v : ℕ) → answerBy p b v .rota ≡ rotaOf (ifZero v (joined p b) p)
+      go zero = refl
+      go (suc v) = refl
 
   -- an ask that is given a place is not refused, and the place is the plan's
-  pub asked-given : (b k : ℕ) → asked n (rotaOf p) b .place ≡ Given k → (askRefusal n p b ≡ 0) × (askPlace p b ≡ k)
+  pub asked-given : (b k : ℕ) → rotaAsked n (rotaOf p) b .place ≡ Given k → (askRefusal n p b ≡ 0) × (askPlace p b ≡ k)
   asked-given b k e = go (askRefusal n p b) refl (rw asked-is at e)
     where
-      go : (v : ℕ) → askRefusal n p b ≡ v
-          → unlessRefused {A = Asked} v (record { place = Given (askPlace p b); rota = rotaOf (joined p b) }) (record { place = NoPlace v; rota = rotaOf p }) .place ≡ Given k
-          → (askRefusal n p b ≡ 0) × (askPlace p b ≡ k)
+      go : (v : ℕ) → askRefusal n p b ≡ v → answerBy p b v .place ≡ Given k → (askRefusal n p b ≡ 0) × (askPlace p b ≡ k)
       go zero z e = (z, cc)
       go (suc v) z e = let w : _≡_ {A = ℕ} 0 1 = cc in absurd (omega arith)
 
@@ -83,7 +68,7 @@ module _ {Other : Type 0} where
   module _ (n : ℕ) where
     abbrev pub planStep : Step Other → Plan → Plan
     planStep (ask b) p = askAfter n p b
-    planStep turn p = turnAfter n p
+    planStep turn p = movedOn n p
     planStep (other x) p = p
 
     unfoldable pub planRun : List (Step Other) → Plan → Plan
@@ -128,4 +113,4 @@ module _ {Other : Type 0} where
       rota-runs l = run-runs l start (start-sound n some)
 
       pub due-runs : (l : List (Step Other)) → dueAt n l ≡ due (planAt l)
-      due-runs l = ap (λ (r : Rota). turned n r .due) (rota-runs l) ∙ ap (λ (t : Turned). t .due) (turned-is n (planAt l) (plan-sound l))
+      due-runs l = ap (λ (r : Rota). rotaTurned n r .due) (rota-runs l) ∙ ap (λ (t : Turned). t .due) (turned-is n (planAt l) (plan-sound l))

@@ -4,11 +4,11 @@ use mathlib.Core.Bool.{Bool, true, false, not, _&&_, false≢true}
 use mathlib.Core.Path.{_≡_, sym, ap, _∙_}
 use mathlib.Core.List.{List, [], _∷_, _++_, append-assoc}
 use native.Mathlib.Omega.{arith}
+use Rattle.ground.proofs.Bools.{both}
 use Rattle.rota.specs.Steps.{ask, turn, other, turns}
 use Rattle.rota.specs.Touches.{Touch, write, read, visit, flip, nothing}
 use Rattle.rota.specs.Memory.{Memory}
 use Rattle.rota.specs.Patrol.{StepOf, Spaced}
-use Rattle.rota.proofs.Waiting.{both}
 
 abbrev pub holds : {A : Type 0} → Dec A → Bool
 holds (yes a) = true
@@ -49,7 +49,8 @@ module _ {n : ℕ} (M : Memory n) where
   spaced? (turn ∷ l) = spaced? l
   spaced? (other x ∷ l) = quietAfter x l && spaced? l
 
-  quiet-turns : (mid post : List (StepOf M)) (u : M .Lane) (k : ℕ) (g : M .Flip) → M .lane g ≡ u → quiet u k (mid ++ other (flip g) ∷ post) ≡ true → k ≤ turns mid
+  quiet-turns : (mid post : List (StepOf M)) (u : M .Lane) (k : ℕ) (g : M .Flip) → M .lane g ≡ u
+      → quiet u k (mid ++ other (flip g) ∷ post) ≡ true → k ≤ turns mid
   unfolding quiet turns
   quiet-turns mid post u zero g e q = omega arith
   quiet-turns [] post u (suc k) g e q =

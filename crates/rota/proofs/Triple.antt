@@ -8,8 +8,8 @@ use native.Mathlib.Decide.{ℕ-discrete}
 use native.Mathlib.Omega.{arith}
 use lib.Dec.{eqb}
 use borrow.Author.Tests.{eq-eqb, ne-eqb}
-use Rattle.rota.specs.Waiting.{below, apart}
-use Rattle.rota.specs.Record.{zeros, unbroken, turnNumber, turned}
+use Rattle.rota.specs.Line.{below, noneTwice, zeros, sound}
+use Rattle.rota.specs.Record.{unbroken, turnNumber, rotaTurned}
 use Rattle.rota.specs.Steps.{turn, other}
 use Rattle.rota.specs.Touches.{flip, read, lastWritten}
 use Rattle.rota.specs.Memory.{Memory}
@@ -130,5 +130,5 @@ enough-right =
 
 -- one turn lies between: the read is wrong
 too-few-wrong : triple 2 .read 1 (memoryAt (triple 2) tooFew) ≡ true
-unfolding memoryRun turned turnNumber unbroken below apart zeros
+unfolding memoryRun rotaTurned turnNumber unbroken sound below noneTwice zeros
 too-few-wrong = refl

@@ -1,17 +1,14 @@
--- Laws of the waiting list: one block more at the end, and where a block stands. Assumes nothing.
+-- Laws of a list of asks: one block more at the end, and where a block stands. Assumes nothing.
 use Prim.Native.Nat.{ℕ, zero, suc, _≤_}
-use mathlib.Core.Bool.{Bool, true, false, cond, _&&_, and-false, false≢true}
+use mathlib.Core.Bool.{Bool, true, false, cond, _&&_, and-false}
 use mathlib.Core.Path.{_≡_, refl, sym, ap, _∙_}
 use mathlib.Core.List.{List, [], _∷_, _++_}
 use native.Mathlib.Omega.{arith}
 use lib.ListN.{length}
 use lib.Dec.{ltb, eqb}
 use borrow.Author.Tests.{eq-eqb, ne-eqb, eqb-true, eqb-false, le-ltb}
-use Rattle.rota.specs.Waiting.{further, place, below, apart}
-
-pub both : (a b : Bool) → a && b ≡ true → (a ≡ true) × (b ≡ true)
-both true b e = (refl, e)
-both false b e = absurd (false≢true e)
+use Rattle.ground.proofs.Bools.{both}
+use Rattle.rota.specs.Line.{further, place, below, noneTwice}
 
 -- ---- one block more
 
@@ -34,14 +31,14 @@ unfolding below
 below-snoc n b [] e f = rw f
 below-snoc n b (c ∷ l) e f = let z = both (ltb c n) (below n l) e in rw (z .0, below-snoc n b l (z .1) f)
 
-pub apart-snoc : (b : ℕ) (l : List ℕ) → apart l ≡ true → place b l ≡ 0 → apart (l ++ b ∷ []) ≡ true
-unfolding apart place
-apart-snoc b [] e f = refl
-apart-snoc b (c ∷ l) e f =
-    let z = both (eqb (place c l) 0) (apart l) e in
+pub once-snoc : (b : ℕ) (l : List ℕ) → noneTwice l ≡ true → place b l ≡ 0 → noneTwice (l ++ b ∷ []) ≡ true
+unfolding noneTwice place
+once-snoc b [] e f = refl
+once-snoc b (c ∷ l) e f =
+    let z = both (eqb (place c l) 0) (noneTwice l) e in
     let w = place-zero b c l f in
     let q : eqb b c ≡ false = ne-eqb b c (λ h. eqb-false c b (w .0) (sym h)) in
-    rw (place-snoc c b l (eqb-true _ _ (z .0)) q, apart-snoc b l (z .1) (w .1))
+    rw (place-snoc c b l (eqb-true _ _ (z .0)) q, once-snoc b l (z .1) (w .1))
 
 -- ---- a block in the midst
 
@@ -61,13 +58,13 @@ below-no n b [] ys h = rw (le-ltb b n h)
 below-no n b (a ∷ xs) ys h = ap (λ (t : Bool). ltb a n && t) (below-no n b xs ys h) ∙ and-false (ltb a n)
 
 -- a block that stands in front already
-pub apart-no : (b : ℕ) (xs ys : List ℕ) → (place b xs ≡ 0 → ⊥) → apart (xs ++ b ∷ ys) ≡ false
-unfolding apart place
-apart-no b [] ys ne = absurd (ne refl)
-apart-no b (a ∷ xs) ys ne = go (apart-no b xs ys) (eqb a b) refl ne
+pub once-no : (b : ℕ) (xs ys : List ℕ) → (place b xs ≡ 0 → ⊥) → noneTwice (xs ++ b ∷ ys) ≡ false
+unfolding noneTwice place
+once-no b [] ys ne = absurd (ne refl)
+once-no b (a ∷ xs) ys ne = go (once-no b xs ys) (eqb a b) refl ne
   where
-    go : ((place b xs ≡ 0 → ⊥) → apart (xs ++ b ∷ ys) ≡ false) → (t : Bool) → eqb a b ≡ t → (cond t 1 (further (place b xs)) ≡ 0 → ⊥)
-        → (eqb (place a (xs ++ b ∷ ys)) 0 && apart (xs ++ b ∷ ys)) ≡ false
+    go : ((place b xs ≡ 0 → ⊥) → noneTwice (xs ++ b ∷ ys) ≡ false) → (t : Bool) → eqb a b ≡ t → (cond t 1 (further (place b xs)) ≡ 0 → ⊥)
+        → (eqb (place a (xs ++ b ∷ ys)) 0 && noneTwice (xs ++ b ∷ ys)) ≡ false
     go ih true e ne = rw (eqb-true a b e, ne-eqb (place b (xs ++ b ∷ ys)) 0 (place-there b xs ys))
     go ih false e ne = ap (λ (t : Bool). eqb (place a (xs ++ b ∷ ys)) 0 && t) (ih (λ z. ne (ap further z))) ∙ and-false (eqb (place a (xs ++ b ∷ ys)) 0)
 

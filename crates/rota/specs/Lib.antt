@@ -1,9 +1,10 @@
-pub mod Ladder
-pub mod Waiting
+pub mod Line
 pub mod Plan
 pub mod Asking
 pub mod Turning
 pub mod Record
+pub mod Broken
+pub mod Reason
 pub mod Numbers
 pub mod Steps
 pub mod Touches

@@ -3,7 +3,7 @@
 use Prim.Native.Nat.{ℕ, _≤_}
 use mathlib.Core.Path.{_≡_}
 use mathlib.Core.List.{List, [], _∷_, _++_}
-use Rattle.rota.specs.Record.{fresh, turned}
+use Rattle.rota.specs.Record.{fresh, rotaTurned}
 use Rattle.rota.specs.Steps.{Step, ask, turn, other, turns, rotaStep}
 use Rattle.rota.specs.Touches.{Touch, write, read, visit, flip, nothing}
 use Rattle.rota.specs.Memory.{Memory}
@@ -31,7 +31,7 @@ module _ {n : ℕ} (M : Memory n) where
   -- the memory after a step, and after a list of steps
   abbrev pub memoryStep : StepOf → Rota → M .State → M .State
   memoryStep (ask block) rota m = m
-  memoryStep turn rota m = visited (turned n rota .due) m
+  memoryStep turn rota m = visited (rotaTurned n rota .due) m
   memoryStep (other touch) rota m = touched touch m
 
   unfoldable pub memoryRun : List StepOf → Rota → M .State → M .State

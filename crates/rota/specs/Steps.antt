@@ -2,7 +2,7 @@
 -- Assumes nothing.
 use Prim.Native.Nat.{ℕ, suc}
 use mathlib.Core.List.{List, [], _∷_}
-use Rattle.rota.specs.Record.{fresh, asked, turned}
+use Rattle.rota.specs.Record.{fresh, rotaAsked, rotaTurned}
 use Rattle.rota.specs.declared.Rota.{Rota}
 use Rattle.rota.specs.declared.Due.{Due}
 
@@ -27,8 +27,8 @@ module _ {Other : Type 0} where
   module _ (n : ℕ) where
     -- the record after a step, and after a list of steps
     abbrev pub rotaStep : Step Other → Rota → Rota
-    rotaStep (ask block) rota = asked n rota block .rota
-    rotaStep turn rota = turned n rota .rota
+    rotaStep (ask block) rota = rotaAsked n rota block .rota
+    rotaStep turn rota = rotaTurned n rota .rota
     rotaStep (other step) rota = rota
 
     unfoldable pub rotaRun : List (Step Other) → Rota → Rota
@@ -40,4 +40,4 @@ module _ {Other : Type 0} where
     rotaAt steps = rotaRun steps fresh
 
     abbrev pub dueAt : List (Step Other) → Due
-    dueAt steps = turned n (rotaAt steps) .due
+    dueAt steps = rotaTurned n (rotaAt steps) .due

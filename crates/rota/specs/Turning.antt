@@ -20,5 +20,5 @@ dueOf next (first ∷ rest) = Two next first
 abbrev pub due : Plan → Due
 due plan = dueOf (plan .next) (plan .asks)
 
-abbrev pub turnAfter : ℕ → Plan → Plan
-turnAfter n plan = record { next = onward n (plan .next); asks = drop 1 (plan .asks) }
+abbrev pub movedOn : ℕ → Plan → Plan
+movedOn n plan = record { next = onward n (plan .next); asks = drop 1 (plan .asks) }

@@ -1,18 +1,17 @@
 // The rota: whose go it is. It knows the block that is next and the blocks that wait, and no memory.
-ghost use mathlib.Core.Path.{_≡_};
-ghost use mathlib.Core.Bool.{_&&_};
-ghost use mathlib.Core.List.{_++_, [], _∷_};
-ghost use Prim.Native.Nat.{_≤_, _<_};
-ghost use lib.ListN.{take, drop};
-ghost use Rattle.rota.specs.Waiting.{place, below, apart};
-ghost use Rattle.rota.specs.Turning.{onward};
-ghost use Rattle.rota.specs.Record.{zeros, unbroken, fresh, asked, turned};
+mod line;
 
-// The record: the block that is next, how many blocks wait, and which, the next one first.
+ghost use mathlib.Core.Path.{_≡_};
+ghost use Prim.Native.Nat.{_<_};
+ghost use Rattle.rota.specs.Turning.{onward};
+ghost use Rattle.rota.specs.Record.{unbroken, fresh, rotaAsked, rotaTurned};
+pub use line::Line;
+pub use line::PLACES;
+
+// The record: the block that is next, and the line of the blocks that are asked for.
 pub struct Rota {
     pub next: u32,
-    pub waiting: u32,
-    pub asks: [u32; 16],
+    pub line: Line,
 }
 
 // What an ask answers: the number of its refusal, or the place.
@@ -45,14 +44,13 @@ impl Rota {
     {
         Rota {
             next: 0,
-            waiting: 0,
-            asks: [0u32; 16],
+            line: Line::empty(),
         }
     }
 
-    // Puts a block on the waiting list, for a patrol of `n` blocks.
+    // Puts a block on the line, for a patrol of `n` blocks.
     pub fn ask(self, n: u32, block: u32) -> Asked
-        ensures { λ r. ⌜ r ≡ asked n self block ⌝ }
+        ensures { λ r. ⌜ r ≡ rotaAsked n self block ⌝ }
     {
         if self.unbroken(n) {
             if n <= block {
@@ -61,33 +59,26 @@ impl Rota {
                     rota: self,
                 };
             }
-            let mut asks = self.asks;
             let next = self.next;
-            let waiting = self.waiting;
-            let count = waiting as usize;
-            let at = place_of(asks, count, block);
+            let line = self.line;
+            let at = line.place_of(block);
             if at != 0 {
-                let place = at as u32;
                 return Asked {
-                    place: Place::Given(place),
+                    place: Place::Given(at),
                     rota: self,
                 };
             }
-            if 16 <= count {
+            if line.full() {
                 return Asked {
                     place: Place::Refused(8),
                     rota: self,
                 };
             }
-            asks[count] = block;
-            let last = waiting + 1;
+            let longer = line.joined(block);
+            let last = longer.waiting;
             return Asked {
                 place: Place::Given(last),
-                rota: Rota {
-                    next,
-                    waiting: last,
-                    asks,
-                },
+                rota: Rota { next, line: longer },
             };
         }
         Asked {
@@ -98,33 +89,23 @@ impl Rota {
 
     // The blocks whose turn it is, in a patrol of `n` blocks.
     pub fn turn(self, n: u32) -> Turned
-        ensures { λ r. ⌜ r ≡ turned n self ⌝ }
+        ensures { λ r. ⌜ r ≡ rotaTurned n self ⌝ }
     {
         if self.unbroken(n) {
             let first = self.next;
-            let waiting = self.waiting;
-            let asks = self.asks;
+            let line = self.line;
             let next = onward(first, n);
-            if waiting == 0 {
+            if line.waiting == 0 {
                 return Turned {
                     due: Due::One(first),
-                    rota: Rota {
-                        next,
-                        waiting,
-                        asks,
-                    },
+                    rota: Rota { next, line },
                 };
             }
-            let second = asks[0];
-            let left = waiting - 1;
-            let rest = moved_up(asks);
+            let second = line.asks[0];
+            let rest = line.moved_up();
             return Turned {
                 due: Due::Two(first, second),
-                rota: Rota {
-                    next,
-                    waiting: left,
-                    asks: rest,
-                },
+                rota: Rota { next, line: rest },
             };
         }
         Turned {
@@ -140,80 +121,9 @@ impl Rota {
         if n <= self.next {
             return false;
         }
-        if 16 < self.waiting {
-            return false;
-        }
-        let asks = self.asks;
-        let count = self.waiting as usize;
-        if in_order(asks, count, n) {
-            unused(asks, count)
-        } else {
-            false
-        }
+        let line = self.line;
+        line.sound(n)
     }
-}
-
-// The place of a block among the first `count`, from 1; 0 where it does not wait.
-fn place_of(asks: [u32; 16], count: usize, block: u32) -> usize
-    requires { ⌜ count ≤ 16 ⌝ }
-    ensures { λ r. ⌜ r ≡ place block (take count asks) ⌝ }
-{
-    let mut i = 0;
-    while i < count {
-        if asks[i] == block {
-            return i + 1;
-        }
-        i += 1;
-    }
-    0
-}
-
-// Whether the first `count` blocks are below `n` and no two are the same.
-fn in_order(asks: [u32; 16], count: usize, n: u32) -> bool
-    requires { ⌜ count ≤ 16 ⌝ }
-    ensures { λ r. ⌜ r ≡ (below n (take count asks) && apart (take count asks)) ⌝ }
-{
-    let mut i = 0;
-    while i < count {
-        let block = asks[i];
-        if n <= block {
-            return false;
-        }
-        let earlier = place_of(asks, i, block);
-        if earlier != 0 {
-            return false;
-        }
-        i += 1;
-    }
-    true
-}
-
-// Whether the places from `count` on hold 0.
-fn unused(asks: [u32; 16], count: usize) -> bool
-    requires { ⌜ count ≤ 16 ⌝ }
-    ensures { λ r. ⌜ r ≡ zeros (drop count asks) ⌝ }
-{
-    let mut i = 16;
-    while count < i {
-        i -= 1;
-        if asks[i] != 0 {
-            return false;
-        }
-    }
-    true
-}
-
-// Every block moves up by one place, and the last place holds 0.
-fn moved_up(asks: [u32; 16]) -> [u32; 16]
-    ensures { λ r. ⌜ r ≡ drop 1 asks ++ (0 ∷ []) ⌝ }
-{
-    let mut up = [0u32; 16];
-    let mut i = 0;
-    while i < 15 {
-        up[i] = asks[i + 1];
-        i += 1;
-    }
-    up
 }
 
 // The block after `block`, round `n` blocks.

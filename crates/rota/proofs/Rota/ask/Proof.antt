@@ -1,69 +1,70 @@
 -- `ask` meets its contract. Assumes nothing.
-use mathlib.Core.Bool.{true}
+use mathlib.Core.Bool.{true, false}
 use mathlib.Core.Path.{_≡_, sym, _∙_}
-use native.Mathlib.Omega.{arith}
 use borrow.Author.Needs.{needs}
-use lib.ListN.{length, take}
+use borrow.Author.Tests.{leb-false}
+use lib.ListN.{length}
+use Rattle.rota.specs.Line.{places, place, full, asksOf}
 use Rattle.rota.specs.Record.{unbroken}
-use Rattle.rota.proofs.Waiting.{place-le}
-use Rattle.rota.proofs.Entries.{Unbroken, unbroken-true, ask-broken, ask-outside, ask-again, ask-full, ask-new}
+use Rattle.rota.proofs.Lines.{full-is}
+use Rattle.rota.proofs.Entries.{line-fit, line-tidy, ask-broken, ask-block-outside, ask-again, ask-full, ask-new}
 use Rattle.rota.proofs.Rota.ask.Statement.{statement}
 use Rattle.rota.proofs.Rota.ask.Tie as tie
 
-long : (c : tie.Start) → length (c .args .self .asks) ≡ 16
+-- ---- what is known on the way
+
+long : (c : tie.Then1) → length (c .before .before .args .self .line .asks) ≡ places
 long c = search needs
 
 ok : (c : tie.Then1) → unbroken (c .before .before .args .n) (c .before .before .args .self) ≡ true
 ok c = sym (c .before .unbroken .ensures) ∙ c .if1 .taken
 
-sound : (c : tie.Then1) → Unbroken (c .before .before .args .n) (c .before .before .args .self)
-sound c = unbroken-true _ _ (ok c)
+-- where the block does not wait yet
+abbrev accepted : tie.Else3 → tie.Then1
+accepted c = c .before .before .before .before
+
+new : (c : tie.Else3) → 0 ≡ place (accepted c .before .before .args .block) (asksOf (accepted c .before .before .args .self .line))
+new c = sym (c .if3 .left) ∙ c .before .place-of .ensures
+
+roomy : (c : tie.Else4) → false ≡ full places (asksOf (accepted (c .before .before) .before .before .args .self .line))
+roomy c = sym (c .if4 .left) ∙ c .before .full .ensures
+
+-- ---- the answers
 
 unbroken-requires : tie.Need-unbroken-requires
 unbroken-requires c κs = search needs
 
 returns : tie.Need-returns
-returns c = ask-outside _ _ (long (c .before .before .before)) (ok (c .before)) _ (c .if2 .taken)
-
-cast-count : tie.Need-cast-count
-cast-count c = search needs
+returns c = ask-block-outside _ _ (long (c .before)) (ok (c .before)) _ (c .if2 .taken)
 
 place-of-requires : tie.Need-place-of-requires
-place-of-requires c κs = sound (c .before .before) .small
-
-cast-place : tie.Need-cast-place
-cast-place c =
-    let args = c .before .before .before .before .before .before .args in
-    omega (
-      arith,
-      c .before .place-of .ensures,
-      place-le (args .block) (take (args .self .waiting) (args .self .asks)),
-      sound (c .before .before .before .before) .sound .few,
-    )
+place-of-requires c κs = line-fit _ _ (ok (c .before .before)) .few
 
 returns-2 : tie.Need-returns-2
 returns-2 c =
-    ask-again _ _ (long (c .before .before .before .before .before .before)) (ok (c .before .before .before .before)) _
-    (c .before .before .before .if2 .left) _ (c .before .place-of .ensures) (c .if3 .taken)
+    let inside = c .before .before .before in
+    ask-again _ _ (long (inside .before)) (ok (inside .before)) _ (inside .if2 .left) _ (c .before .place-of .ensures) (c .if3 .taken)
+
+full-requires : tie.Need-full-requires
+full-requires c κs = search needs
 
 returns-3 : tie.Need-returns-3
 returns-3 c =
-    ask-full _ _ (long (c .before .before .before .before .before .before .before)) (ok (c .before .before .before .before .before)) _
-    (c .before .before .before .before .if2 .left) (sym (c .before .if3 .left) ∙ c .before .before .place-of .ensures) (c .if4 .taken)
+    let at = c .before .before in
+    let from = accepted at in
+    ask-full _ _ (long from) (ok from) _ (at .before .before .before .if2 .left) (new at) (sym (c .if4 .taken) ∙ c .before .full .ensures)
 
-mul-asks : tie.Need-mul-asks
-mul-asks c = search needs
-
-array-write-asks : tie.Need-array-write-asks
-array-write-asks c = search needs
-
-add-last : tie.Need-add-last
-add-last c = search needs
+joined-requires : tie.Need-joined-requires
+joined-requires c κs =
+    let from = accepted (c .before .before) in
+    let line = from .before .before .args .self .line in
+    (line-tidy _ _ (long from) (ok from), leb-false places (line .waiting) (full-is places line (long from) ∙ sym (roomy c)))
 
 returns-4 : tie.Need-returns-4
 returns-4 c =
-    ask-new _ _ (long (c .before .before .before .before .before .before .before)) (ok (c .before .before .before .before .before)) _
-    (c .before .before .before .before .if2 .left) (sym (c .before .if3 .left) ∙ c .before .before .place-of .ensures) (c .if4 .left)
+    let at = c .before .before .before in
+    let from = accepted at in
+    ask-new _ _ (long from) (ok from) _ (at .before .before .before .if2 .left) _ (new at) (roomy (c .before)) (c .joined .ensures)
 
 returns-5 : tie.Need-returns-5
 returns-5 c = ask-broken _ _ _ (sym (c .before .unbroken .ensures) ∙ c .if1 .left)
@@ -74,13 +75,10 @@ ask-spec =
     (tie.spec
     unbroken-requires
     returns
-    cast-count
     place-of-requires
-    cast-place
     returns-2
+    full-requires
     returns-3
-    mul-asks
-    array-write-asks
-    add-last
+    joined-requires
     returns-4
     returns-5)

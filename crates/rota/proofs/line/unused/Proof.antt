@@ -5,24 +5,24 @@ use mathlib.Core.Path.{_≡_, sym}
 use native.Mathlib.Omega.{arith}
 use borrow.Author.Needs.{needs}
 use lib.ListN.{length, drop, length-drop}
-use Rattle.rota.specs.Record.{zeros}
+use Rattle.rota.specs.Line.{places, zeros}
 use Rattle.rota.proofs.Places.{zeros-none, zeros-fails, zeros-next}
-use Rattle.rota.proofs.unused.Statement.{statement}
-use Rattle.rota.proofs.unused.Tie as tie
+use Rattle.rota.proofs.line.unused.Statement.{statement}
+use Rattle.rota.proofs.line.unused.Tie as tie
 
 abbrev Inv-loop : tie.InvT-loop
-Inv-loop count asks i₀ i = (count ≤ i) × (i ≤ 16) × (zeros (drop i asks) ≡ true)
+Inv-loop count asks i₀ i = (count ≤ i) × (i ≤ places) × (zeros (drop i asks) ≡ true)
 
 abbrev μ-loop : tie.MeasureT-loop
 μ-loop count asks i₀ i = i - count
 
-long : (c : tie.Start Inv-loop μ-loop) → length (c .args .t1) ≡ 16
+long : (c : tie.Start Inv-loop μ-loop) → length (c .args .t1) ≡ places
 long c = search needs
 
 loop-holds : tie.Need-loop-holds Inv-loop μ-loop
 loop-holds c =
     let l = long c in
-    let d = length-drop 16 (c .args .t1) in
+    let d = length-drop places (c .args .t1) in
     (c .pre, omega arith, zeros-none _ (omega arith))
 
 sub-i : tie.Need-sub-i Inv-loop μ-loop

@@ -5,22 +5,22 @@ use mathlib.Core.Path.{_≡_, refl, sym, ap₂, _∙_}
 use native.Mathlib.Omega.{arith}
 use borrow.Author.Needs.{needs}
 use lib.ListN.{length, take}
-use Rattle.rota.specs.Waiting.{below, apart}
-use Rattle.rota.proofs.Places.{below-fails, apart-fails, below-next, apart-next}
-use Rattle.rota.proofs.in_order.Statement.{statement}
-use Rattle.rota.proofs.in_order.Tie as tie
+use Rattle.rota.specs.Line.{places, below, noneTwice}
+use Rattle.rota.proofs.Places.{below-fails, once-fails, below-next, once-next}
+use Rattle.rota.proofs.line.in_order.Statement.{statement}
+use Rattle.rota.proofs.line.in_order.Tie as tie
 
 abbrev Inv-loop : tie.InvT-loop
-Inv-loop count n asks i₀ i = (i ≤ count) × (below n (take i asks) ≡ true) × (apart (take i asks) ≡ true)
+Inv-loop count n asks i₀ i = (i ≤ count) × (below n (take i asks) ≡ true) × (noneTwice (take i asks) ≡ true)
 
 abbrev μ-loop : tie.MeasureT-loop
 μ-loop count n asks i₀ i = count - i
 
-long : (c : tie.Start Inv-loop μ-loop) → length (c .args .t1) ≡ 16
+long : (c : tie.Start Inv-loop μ-loop) → length (c .args .t1) ≡ places
 long c = search needs
 
 loop-holds : tie.Need-loop-holds Inv-loop μ-loop
-unfolding below apart
+unfolding below noneTwice
 loop-holds c = (omega arith, refl, refl)
 
 mul-block : tie.Need-mul-block Inv-loop μ-loop
@@ -34,14 +34,14 @@ returns c =
     let l = long (c .before .before .before) in
     below-fails _ _ (c .before .before .loop .i) _ (c .before .loop-test .taken) (omega arith) (c .if1 .taken)
 
-place-of-requires : tie.Need-place-of-requires Inv-loop μ-loop
-place-of-requires c κs = search needs
+place-in-requires : tie.Need-place-in-requires Inv-loop μ-loop
+place-in-requires c κs = search needs
 
 returns-2 : tie.Need-returns-2 Inv-loop μ-loop
 returns-2 c =
     let l = long (c .before .before .before .before .before) in
-    apart-fails _ _ (c .before .before .before .before .loop .i) _ (c .before .before .before .loop-test .taken) (omega arith)
-    (λ z. c .if2 .taken (c .before .place-of .ensures ∙ z))
+    once-fails _ _ (c .before .before .before .before .loop .i) _ (c .before .before .before .loop-test .taken) (omega arith)
+    (λ z. c .if2 .taken (c .before .place-in .ensures ∙ z))
 
 add-i : tie.Need-add-i Inv-loop μ-loop
 add-i c = search needs
@@ -55,7 +55,7 @@ loop-again c =
     let at = c .before .before .before .before .loop in (
       omega arith,
       below-next _ _ (at .i) (omega arith) (at .inv .1) (c .before .before .if1 .left),
-      apart-next _ (at .i) (omega arith) (at .inv .2) (sym (c .before .place-of .ensures) ∙ c .if2 .left),
+      once-next _ (at .i) (omega arith) (at .inv .2) (sym (c .before .place-in .ensures) ∙ c .if2 .left),
     )
 
 returns-3 : tie.Need-returns-3 Inv-loop μ-loop
@@ -73,7 +73,7 @@ in-order-spec =
     mul-block
     array-read-block
     returns
-    place-of-requires
+    place-in-requires
     returns-2
     add-i
     loop-less

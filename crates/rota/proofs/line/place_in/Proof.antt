@@ -1,13 +1,13 @@
--- `place_of` meets its contract: the block is not among the places passed. Assumes nothing.
+-- `place_in` meets its contract: the block is not among the places passed. Assumes nothing.
 use Prim.Native.Nat.{_≤_, _-_}
 use mathlib.Core.Path.{_≡_, refl, sym}
 use native.Mathlib.Omega.{arith}
 use borrow.Author.Needs.{needs}
 use lib.ListN.{length, take}
-use Rattle.rota.specs.Waiting.{place}
+use Rattle.rota.specs.Line.{places, place}
 use Rattle.rota.proofs.Places.{place-hit, place-next}
-use Rattle.rota.proofs.place_of.Statement.{statement}
-use Rattle.rota.proofs.place_of.Tie as tie
+use Rattle.rota.proofs.line.place_in.Statement.{statement}
+use Rattle.rota.proofs.line.place_in.Tie as tie
 
 abbrev Inv-loop : tie.InvT-loop
 Inv-loop count block asks i₀ i = (i ≤ count) × (place block (take i asks) ≡ 0)
@@ -15,7 +15,7 @@ Inv-loop count block asks i₀ i = (i ≤ count) × (place block (take i asks) �
 abbrev μ-loop : tie.MeasureT-loop
 μ-loop count block asks i₀ i = count - i
 
-long : (c : tie.Start Inv-loop μ-loop) → length (c .args .t1) ≡ 16
+long : (c : tie.Start Inv-loop μ-loop) → length (c .args .t1) ≡ places
 long c = search needs
 
 loop-holds : tie.Need-loop-holds Inv-loop μ-loop
@@ -52,8 +52,8 @@ returns-2 c =
     let e : c .before .loop .i ≡ c .before .before .args .count = omega arith in
     rw (← e) (sym (c .before .loop .inv .1))
 
-pub place-of-spec : {M : Type 1} → statement M
-place-of-spec =
+pub place-in-spec : {M : Type 1} → statement M
+place-in-spec =
     tie.close
     (tie.spec
     Inv-loop

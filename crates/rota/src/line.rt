@@ -1,0 +1,143 @@
+// A line of asks: the blocks that wait for a turn of their own, in an array of PLACES places.
+ghost use mathlib.Core.Path.{_≡_};
+ghost use mathlib.Core.Bool.{_&&_};
+ghost use mathlib.Core.List.{[]};
+ghost use Prim.Native.Nat.{_≤_, _<_};
+ghost use lib.ListN.{take, drop};
+ghost use Rattle.rota.specs.Line.{places, place, below, noneTwice, zeros, full};
+ghost use Rattle.rota.specs.Line.{asksOf, sound, lineOf, longer, shorter, Tidy};
+
+// How many blocks may wait.
+pub const PLACES: usize = 16;
+
+// How many blocks wait, and which, the next one first.
+pub struct Line {
+    pub waiting: u32,
+    pub asks: [u32; PLACES],
+}
+
+impl Line {
+    // Nothing waits.
+    pub(crate) fn empty() -> Line
+        ensures { λ r. ⌜ r ≡ lineOf places [] ⌝ }
+    {
+        Line {
+            waiting: 0,
+            asks: [0u32; PLACES],
+        }
+    }
+
+    // Whether every place is in use.
+    pub(crate) fn full(self) -> bool
+        ensures { λ r. ⌜ r ≡ full places (asksOf self) ⌝ }
+    {
+        PLACES <= self.waiting as usize
+    }
+
+    // The place of a block, from 1; 0 where it does not wait.
+    pub(crate) fn place_of(self, block: u32) -> u32
+        requires { ⌜ self .waiting ≤ places ⌝ }
+        ensures { λ r. ⌜ r ≡ place block (asksOf self) ⌝ }
+    {
+        let asks = self.asks;
+        place_in(asks, self.waiting as usize, block) as u32
+    }
+
+    // One block more waits, behind the others.
+    pub(crate) fn joined(self, block: u32) -> Line
+        requires { ⌜ Tidy places self × (self .waiting < places) ⌝ }
+        ensures { λ r. ⌜ r ≡ longer places self block ⌝ }
+    {
+        let mut asks = self.asks;
+        let waiting = self.waiting;
+        asks[waiting as usize] = block;
+        Line {
+            waiting: waiting + 1,
+            asks,
+        }
+    }
+
+    // The first block leaves, every other moves up by one place, and the last place holds 0.
+    pub(crate) fn moved_up(self) -> Line
+        requires { ⌜ Tidy places self × (0 < self .waiting) ⌝ }
+        ensures { λ r. ⌜ r ≡ shorter places self ⌝ }
+    {
+        let asks = self.asks;
+        let mut up = [0u32; PLACES];
+        let mut i = 0;
+        while i < PLACES - 1 {
+            up[i] = asks[i + 1];
+            i += 1;
+        }
+        Line {
+            waiting: self.waiting - 1,
+            asks: up,
+        }
+    }
+
+    // Whether a patrol of `n` blocks can have this line.
+    pub(crate) fn sound(self, n: u32) -> bool
+        ensures { λ r. ⌜ r ≡ sound places n self ⌝ }
+    {
+        let count = self.waiting as usize;
+        if PLACES < count {
+            return false;
+        }
+        let asks = self.asks;
+        if in_order(asks, count, n) {
+            unused(asks, count)
+        } else {
+            false
+        }
+    }
+}
+
+// The place of a block among the first `count`, from 1; 0 where it is not there.
+fn place_in(asks: [u32; PLACES], count: usize, block: u32) -> usize
+    requires { ⌜ count ≤ places ⌝ }
+    ensures { λ r. ⌜ r ≡ place block (take count asks) ⌝ }
+{
+    let mut i = 0;
+    while i < count {
+        if asks[i] == block {
+            return i + 1;
+        }
+        i += 1;
+    }
+    0
+}
+
+// Whether the first `count` blocks are below `n` and no two are the same.
+fn in_order(asks: [u32; PLACES], count: usize, n: u32) -> bool
+    requires { ⌜ count ≤ places ⌝ }
+    ensures { λ r. ⌜ r ≡ (below n (take count asks) && noneTwice (take count asks)) ⌝ }
+{
+    let mut i = 0;
+    while i < count {
+        let block = asks[i];
+        if n <= block {
+            return false;
+        }
+        let earlier = place_in(asks, i, block);
+        if earlier != 0 {
+            return false;
+        }
+        i += 1;
+    }
+    true
+}
+
+// Whether the places from `count` on hold 0.
+fn unused(asks: [u32; PLACES], count: usize) -> bool
+    requires { ⌜ count ≤ places ⌝ }
+    ensures { λ r. ⌜ r ≡ zeros (drop count asks) ⌝ }
+{
+    let mut i = PLACES;
+    while count < i {
+        i -= 1;
+        if asks[i] != 0 {
+            return false;
+        }
+    }
+    true
+}
