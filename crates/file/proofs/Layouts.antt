@@ -7,9 +7,10 @@ use native.Mathlib.Omega.{arith}
 use lib.ListN.{length}
 use Rattle.ground.proofs.Stores.{length-stores, stores-hit}
 use Rattle.ground.proofs.Lists.{list-is}
-use Rattle.store.specs.Refusal.{layoutRefusal}
+use Rattle.layout.specs.declared.Layout.{Layout}
+use Rattle.layout.specs.Refusal.{imageRefusal}
 use Rattle.file.specs.declared.Header.the-variants.{Image}
-use Rattle.file.specs.Bytes.{shapeIn, interleaveIn, groupsIn, wordCount, wordIn, wordsIn, wordsInto}
+use Rattle.file.specs.Bytes.{layoutIn, wordCount, wordIn, wordsIn, wordsInto}
 use Rattle.file.specs.Refusal.{fileRefusal}
 use Rattle.file.specs.Header.{headerNumber, headerIf, headerOf}
 use Rattle.file.proofs.Ladder.{accepted, body-words, frame-passed}
@@ -29,31 +30,25 @@ pub header-number : (bytes : List ℕ) → headerNumber (headerOf bytes) ≡ fil
 unfolding headerOf
 header-number bytes = by (fileRefusal bytes)
   where
-    by : (n : ℕ) → headerNumber (headerIf n (Image (shapeIn bytes) (interleaveIn bytes) (groupsIn bytes))) ≡ n
+    by : (n : ℕ) → headerNumber (headerIf n (Image (layoutIn bytes))) ≡ n
     by zero = refl
     by (suc n) = refl
 
-pub record Layout (bytes : List ℕ) (shape s g : ℕ) : Type 0 where
-  pub passed : fileRefusal bytes ≡ 0
-  pub shape-read : shape ≡ shapeIn bytes
-  pub s-read : s ≡ interleaveIn bytes
-  pub g-read : g ≡ groupsIn bytes
-
-pub header-layout : (bytes : List ℕ) (shape s g : ℕ) → headerOf bytes ≡ Image shape s g → Layout bytes shape s g
+-- the layout is the one in the bytes, and the file is accepted
+pub header-layout : (bytes : List ℕ) (layout : Layout) → headerOf bytes ≡ Image layout → (fileRefusal bytes ≡ 0) × (layout ≡ layoutIn bytes)
 unfolding headerOf
-header-layout bytes shape s g e = by (fileRefusal bytes) refl e
+header-layout bytes layout e = by (fileRefusal bytes) refl e
   where
-    by : (n : ℕ) → fileRefusal bytes ≡ n → headerIf n (Image (shapeIn bytes) (interleaveIn bytes) (groupsIn bytes)) ≡ Image shape s g
-        → Layout bytes shape s g
-    by zero p q = record { passed = p; shape-read = cc; s-read = cc; g-read = cc }
+    by : (n : ℕ) → fileRefusal bytes ≡ n → headerIf n (Image (layoutIn bytes)) ≡ Image layout → (fileRefusal bytes ≡ 0) × (layout ≡ layoutIn bytes)
+    by zero p q = (p, cc)
     by (suc n) p q = let z : _≡_ {A = ℕ} 0 1 = cc in absurd (omega arith)
 
 -- its words are of that layout
-pub words-layout : (bytes : List ℕ) (shape s g : ℕ) → headerOf bytes ≡ Image shape s g → layoutRefusal (wordCount (length bytes)) shape s g ≡ 0
-words-layout bytes shape s g e =
-    let l = header-layout bytes shape s g e in
-    let ok = accepted bytes (l .passed) in
-    rw (l .shape-read, l .s-read, l .g-read)
-    (sym (body-words (length bytes - 9) (shapeIn bytes) (interleaveIn bytes) (groupsIn bytes) (omega (arith, ok .body)))
+pub words-layout : (bytes : List ℕ) (layout : Layout) → headerOf bytes ≡ Image layout → imageRefusal (wordCount (length bytes)) layout ≡ 0
+words-layout bytes layout e =
+    let l = header-layout bytes layout e in
+    let ok = accepted bytes (l .0) in
+    rw (l .1)
+    (sym (body-words (length bytes - 9) (layoutIn bytes) (omega (arith, ok .body)))
     ∙ sym (frame-passed bytes (ok .framed-whole))
-    ∙ l .passed)
+    ∙ l .0)

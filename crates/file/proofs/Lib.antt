@@ -1,4 +1,3 @@
-mod Tests
 pub mod Ladder
 pub mod Layouts
 pub mod RoundTrip

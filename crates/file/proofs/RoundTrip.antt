@@ -9,9 +9,11 @@ use lib.Seq.{getD-append-add}
 use Rattle.ground.specs.Lists.{listOf}
 use Rattle.ground.proofs.Lists.{length-listOf, list-is}
 use Rattle.ground.specs.Ladder.{_then_}
-use Rattle.store.specs.Refusal.{layoutRefusal}
+use Rattle.layout.specs.declared.Layout.{Layout}
+use Rattle.layout.specs.Layout.{layoutOf}
+use Rattle.layout.specs.Refusal.{imageRefusal}
 use Rattle.file.specs.BigEndian.{pairOf, pairBytes, wordOf, wordBytes, wordAt}
-use Rattle.file.specs.Bytes.{bytesOf, fileOf, versionIn, fieldIn, shapeIn, interleaveIn, groupsIn, wordCount, wordIn, wordsIn}
+use Rattle.file.specs.Bytes.{bytesOf, fileOf, versionIn, fieldIn, layoutIn, wordCount, wordIn, wordsIn}
 use Rattle.file.specs.Refusal.{longRung, frameRefusal, bodyRefusal, fileRefusal}
 use Rattle.file.proofs.Ladder.{Accepted, accepted, body-words}
 
@@ -65,54 +67,54 @@ then-none : (number : ℕ) → number then 0 ≡ number
 then-none zero = refl
 then-none (suc number) = refl
 
-module _ (shape s g : ℕ) (words : List ℕ) where
+module _ (layout : Layout) (words : List ℕ) where
   headOf : List ℕ
-  headOf = 1 ∷ wordBytes (4 + 4 * length words) ++ shape ∷ s ∷ pairBytes g
+  headOf = 1 ∷ wordBytes (4 + 4 * length words) ++ layout .shape ∷ layout .s ∷ pairBytes (layout .g)
 
-  pub length-file : length (fileOf shape s g words) ≡ 9 + 4 * length words
+  pub length-file : length (fileOf layout words) ≡ 9 + 4 * length words
   unfolding fileOf
   length-file = omega (arith, length-bytes words)
 
-  pub field-back : fieldIn (fileOf shape s g words) ≡ 4 + 4 * length words
+  pub field-back : fieldIn (fileOf layout words) ≡ 4 + 4 * length words
   unfolding fileOf
   field-back = word-read (4 + 4 * length words)
 
-  pub groups-back : groupsIn (fileOf shape s g words) ≡ g
+  pub layout-back : layoutIn (fileOf layout words) ≡ layout
   unfolding fileOf
-  groups-back = pair-read g
+  layout-back = ap (λ (g : ℕ). layoutOf (layout .shape) (layout .s) g) (pair-read (layout .g))
 
   -- what is read of an image's file is the image
-  pub words-back : wordsIn (fileOf shape s g words) ≡ words
+  pub words-back : wordsIn (fileOf layout words) ≡ words
   unfolding wordsIn fileOf headOf
   words-back =
-      let count : wordCount (length (fileOf shape s g words)) ≡ length words = omega (arith, length-file) in
-      ap (λ (n : ℕ). listOf n (wordIn (fileOf shape s g words))) count
-      ∙ sym (list-is (length words) words (wordIn (fileOf shape s g words)) refl
+      let count : wordCount (length (fileOf layout words)) ≡ length words = omega (arith, length-file) in
+      ap (λ (n : ℕ). listOf n (wordIn (fileOf layout words))) count
+      ∙ sym (list-is (length words) words (wordIn (fileOf layout words)) refl
       (λ k h. word-back words k h ∙ sym (word-past headOf (bytesOf words) (4 * k))))
 
-  version-back : versionIn (fileOf shape s g words) ≡ 1
+  version-back : versionIn (fileOf layout words) ≡ 1
   unfolding fileOf
   version-back = refl
 
-  frame-back : frameRefusal (fileOf shape s g words) ≡ longRung (9 + 4 * length words)
+  frame-back : frameRefusal (fileOf layout words) ≡ longRung (9 + 4 * length words)
   unfolding frameRefusal
   frame-back =
-      let file = fileOf shape s g words in
+      let file = fileOf layout words in
       let field : fieldIn file ≡ length file - 5 = omega (arith, field-back, length-file) in
       let long : 9 ≤ length file = omega (arith, length-file) in
       rw (version-back, le-ltb (length file) 9 long, eq-eqb (fieldIn file) (length file - 5) field, length-file) (then-none (longRung (9 + 4 * length words)))
 
-  body-back : bodyRefusal (length (fileOf shape s g words) - 9) shape s g ≡ layoutRefusal (length words) shape s g
+  body-back : bodyRefusal (length (fileOf layout words) - 9) layout ≡ imageRefusal (length words) layout
   body-back =
-      let body : length (fileOf shape s g words) - 9 ≡ 4 * length words = omega (arith, length-file) in
+      let body : length (fileOf layout words) - 9 ≡ 4 * length words = omega (arith, length-file) in
       let even : 4 * length words % 4 ≡ 0 = omega arith in
       let whole : 4 * length words / 4 ≡ length words = omega arith in
-      rw body (body-words (4 * length words) shape s g even ∙ ap (λ (n : ℕ). layoutRefusal n shape s g) whole)
+      rw body (body-words (4 * length words) layout even ∙ ap (λ (n : ℕ). imageRefusal n layout) whole)
 
   -- and the file is refused as the image's layout is, but for its length
-  pub refusal-back : fileRefusal (fileOf shape s g words) ≡ longRung (9 + 4 * length words) then layoutRefusal (length words) shape s g
+  pub refusal-back : fileRefusal (fileOf layout words) ≡ longRung (9 + 4 * length words) then imageRefusal (length words) layout
   unfolding fileRefusal fileOf
-  refusal-back = rw (frame-back, groups-back) (ap (λ (n : ℕ). longRung (9 + 4 * length words) then n) body-back)
+  refusal-back = rw (frame-back, layout-back) (ap (λ (n : ℕ). longRung (9 + 4 * length words) then n) body-back)
 
 -- ---- from a file to its image and back
 
@@ -158,7 +160,7 @@ unfolding wordsIn
 length-words bytes = length-listOf (wordCount (length bytes)) (wordIn bytes)
 
 back : (bytes : List ℕ) → Bytes bytes → Accepted bytes → Headed bytes
-    → fileOf (shapeIn bytes) (interleaveIn bytes) (groupsIn bytes) (wordsIn bytes) ≡ bytes
+    → fileOf (layoutIn bytes) (wordsIn bytes) ≡ bytes
 unfolding fileOf wordsIn
 back bytes small ok (headed a b c d e f g h i rest) =
     let count = wordCount (length bytes) in
@@ -173,5 +175,5 @@ back bytes small ok (headed a b c d e f g h i rest) =
 
 -- the file of what was read from a file that is accepted is that file
 pub file-back : (bytes : List ℕ) → Bytes bytes → fileRefusal bytes ≡ 0
-    → fileOf (shapeIn bytes) (interleaveIn bytes) (groupsIn bytes) (wordsIn bytes) ≡ bytes
+    → fileOf (layoutIn bytes) (wordsIn bytes) ≡ bytes
 file-back bytes small e = let ok = accepted bytes e in back bytes small ok (head-of bytes (ok .frame .least))

@@ -5,6 +5,8 @@ use mathlib.Core.List.{List, [], _∷_, _++_}
 use lib.ListN.{length, getD}
 use Rattle.ground.specs.Lists.{listOf}
 use Rattle.ground.specs.Stores.{stores}
+use Rattle.layout.specs.declared.Layout.{Layout}
+use Rattle.layout.specs.Layout.{layoutOf}
 use Rattle.file.specs.BigEndian.{pairBytes, wordBytes, pairAt, wordAt}
 
 -- ---- from an image to its file
@@ -13,8 +15,9 @@ unfoldable pub bytesOf : List ℕ → List ℕ
 bytesOf [] = []
 bytesOf (word ∷ words) = wordBytes word ++ bytesOf words
 
-unfoldable pub fileOf : ℕ → ℕ → ℕ → List ℕ → List ℕ
-fileOf shape s g words = 1 ∷ wordBytes (4 + 4 * length words) ++ shape ∷ s ∷ pairBytes g ++ bytesOf words
+unfoldable pub fileOf : Layout → List ℕ → List ℕ
+fileOf layout words =
+    1 ∷ wordBytes (4 + 4 * length words) ++ layout .shape ∷ layout .s ∷ pairBytes (layout .g) ++ bytesOf words
 
 -- ---- from a file to its image: what the bytes say
 
@@ -24,14 +27,8 @@ versionIn bytes = getD bytes 0 0
 abbrev pub fieldIn : List ℕ → ℕ
 fieldIn bytes = wordAt bytes 1
 
-abbrev pub shapeIn : List ℕ → ℕ
-shapeIn bytes = getD bytes 5 0
-
-abbrev pub interleaveIn : List ℕ → ℕ
-interleaveIn bytes = getD bytes 6 0
-
-abbrev pub groupsIn : List ℕ → ℕ
-groupsIn bytes = pairAt bytes 7
+abbrev pub layoutIn : List ℕ → Layout
+layoutIn bytes = layoutOf (getD bytes 5 0) (getD bytes 6 0) (pairAt bytes 7)
 
 -- how many whole words stand after the header of a file of some length, and what word k is
 abbrev pub wordCount : ℕ → ℕ

@@ -1,15 +1,15 @@
--- The header is the file's refusal, or the shape, s and G that it names. Assumes nothing.
+-- The header is the file's refusal, or the layout that it names: shape, s and G. Assumes nothing.
 use Prim.Native.Nat.{ℕ, zero, suc}
 use mathlib.Core.List.{List}
 use Rattle.file.specs.declared.Header.{Header}
 use Rattle.file.specs.declared.Header.the-variants.{Refused, Image}
-use Rattle.file.specs.Bytes.{shapeIn, interleaveIn, groupsIn}
+use Rattle.file.specs.Bytes.{layoutIn}
 use Rattle.file.specs.Refusal.{fileRefusal}
 
 -- the paper's number of a header: 0 where it is accepted
 abbrev pub headerNumber : Header → ℕ
 headerNumber (Refused number) = number
-headerNumber (Image shape s g) = 0
+headerNumber (Image layout) = 0
 
 -- the header where nothing is refused, and else the refusal
 abbrev pub headerIf : ℕ → Header → Header
@@ -17,4 +17,4 @@ headerIf zero header = header
 headerIf (suc number) header = Refused (suc number)
 
 unfoldable pub headerOf : List ℕ → Header
-headerOf bytes = headerIf (fileRefusal bytes) (Image (shapeIn bytes) (interleaveIn bytes) (groupsIn bytes))
+headerOf bytes = headerIf (fileRefusal bytes) (Image (layoutIn bytes))

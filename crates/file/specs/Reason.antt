@@ -1,13 +1,12 @@
 -- The refusals of a file in plain statements, in the order in which they are checked. Assumes nothing.
 use Prim.Native.Nat.{ℕ, _*_, _<_}
 use mathlib.Core.Path.{_≡_}
-use mathlib.Core.List.{List, [], _∷_}
+use mathlib.Core.List.{List, [], _∷_, _++_}
 use lib.ListN.{length, drop}
-use Rattle.store.specs.Layout.{blocks}
-use Rattle.store.specs.Shapes.{rowsOf}
+use Rattle.layout.specs.Layout.{rowsOf, blocks}
 use Rattle.ground.specs.Rules.{Rule}
-use Rattle.store.specs.Reason.{noShape, badInterleave, badGroups}
-use Rattle.file.specs.Bytes.{versionIn, fieldIn, shapeIn, interleaveIn, groupsIn}
+use Rattle.layout.specs.Reason.{layoutRules}
+use Rattle.file.specs.Bytes.{versionIn, fieldIn, layoutIn}
 
 -- file above 32,768 bytes
 abbrev pub tooLong : List ℕ → Rule
@@ -28,7 +27,7 @@ badField bytes = record { number = 10; reason = fieldIn bytes ≡ length (drop 5
 -- the bytes after the header are not 4·rows·N
 abbrev pub badBody : List ℕ → Rule
 badBody bytes =
-    record { number = 4; reason = length (drop 9 bytes) ≡ 4 * (rowsOf (shapeIn bytes) * blocks (interleaveIn bytes) (groupsIn bytes)) → ⊥ }
+    record { number = 4; reason = length (drop 9 bytes) ≡ 4 * (rowsOf (layoutIn bytes) * blocks (layoutIn bytes)) → ⊥ }
 
 -- 11, 10, 9, 10, 1, 2, 3, 4
 abbrev pub fileRules : List ℕ → List Rule
@@ -37,8 +36,6 @@ fileRules bytes =
     ∷ tooShort bytes
     ∷ badVersion bytes
     ∷ badField bytes
-    ∷ noShape (shapeIn bytes)
-    ∷ badInterleave (interleaveIn bytes)
-    ∷ badGroups (interleaveIn bytes) (groupsIn bytes)
-    ∷ badBody bytes
+    ∷ layoutRules (layoutIn bytes)
+    ++ badBody bytes
     ∷ []

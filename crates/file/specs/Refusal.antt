@@ -5,11 +5,11 @@ use mathlib.Core.Bool.{not}
 use mathlib.Core.List.{List}
 use lib.Dec.{ltb, eqb}
 use lib.ListN.{length}
-use Rattle.store.specs.Layout.{blocks}
-use Rattle.store.specs.Shapes.{rowsOf}
+use Rattle.layout.specs.declared.Layout.{Layout}
+use Rattle.layout.specs.Layout.{rowsOf, blocks}
 use Rattle.ground.specs.Ladder.{_when_else_, _then_}
-use Rattle.store.specs.Refusal.{geometryRefusal}
-use Rattle.file.specs.Bytes.{versionIn, fieldIn, shapeIn, interleaveIn, groupsIn}
+use Rattle.layout.specs.Refusal.{layoutRefusal}
+use Rattle.file.specs.Bytes.{versionIn, fieldIn, layoutIn}
 
 -- 11: file above 32,768 bytes
 abbrev pub longRung : ℕ → ℕ
@@ -28,8 +28,8 @@ abbrev pub fieldRung : ℕ → ℕ → ℕ
 fieldRung field len = 10 when not (eqb field (len - 5)) else 0
 
 -- 4: the bytes after the header are not 4·rows·N
-abbrev pub bodyRung : ℕ → ℕ → ℕ → ℕ → ℕ
-bodyRung body shape s g = 4 when not (eqb body (4 * (rowsOf shape * blocks s g))) else 0
+abbrev pub bodyRung : ℕ → Layout → ℕ
+bodyRung body layout = 4 when not (eqb body (4 * (rowsOf layout * blocks layout))) else 0
 
 -- 11, 10, 9, 10: what makes it an image file
 unfoldable pub frameRefusal : List ℕ → ℕ
@@ -37,8 +37,8 @@ frameRefusal bytes =
     longRung (length bytes) then shortRung (length bytes) then versionRung (versionIn bytes) then fieldRung (fieldIn bytes) (length bytes)
 
 -- 1, 2, 3, 4: what the header says of the image, and the bytes after it
-unfoldable pub bodyRefusal : ℕ → ℕ → ℕ → ℕ → ℕ
-bodyRefusal body shape s g = geometryRefusal shape s g then bodyRung body shape s g
+unfoldable pub bodyRefusal : ℕ → Layout → ℕ
+bodyRefusal body layout = layoutRefusal layout then bodyRung body layout
 
 unfoldable pub fileRefusal : List ℕ → ℕ
-fileRefusal bytes = frameRefusal bytes then bodyRefusal (length bytes - 9) (shapeIn bytes) (interleaveIn bytes) (groupsIn bytes)
+fileRefusal bytes = frameRefusal bytes then bodyRefusal (length bytes - 9) (layoutIn bytes)

@@ -2,6 +2,7 @@
 mod reading;
 mod refusals;
 
+use layout::Layout;
 pub use reading::read_header;
 pub use reading::read_words;
 pub use reading::word_count;
@@ -11,5 +12,5 @@ pub enum Header {
     // The number of the first rule that the file breaks.
     Refused(u32),
     // The layout of the image.
-    Image { shape: u32, s: u32, g: u32 },
+    Image(Layout),
 }

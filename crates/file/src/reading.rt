@@ -1,6 +1,5 @@
 // The header and the words of a file.
 ghost use mathlib.Core.Path.{_≡_};
-ghost use Prim.Native.Nat.{min};
 ghost use Rattle.file.specs.Bytes.{wordCount, wordsInto};
 ghost use Rattle.file.specs.Header.{headerOf};
 use super::Header;
@@ -9,6 +8,8 @@ use super::refusals::check_frame;
 use super::refusals::pair_of;
 use super::refusals::wide;
 use super::refusals::word_at;
+use ground::least;
+use layout::Layout;
 
 pub fn read_header(bytes: &[u8]) -> Header
     ensures { λ r. ⌜ r ≡ headerOf (now (bytes .entry)) ⌝ }
@@ -17,14 +18,16 @@ pub fn read_header(bytes: &[u8]) -> Header
     if frame != 0 {
         return Header::Refused(frame);
     }
-    let shape = wide(bytes[5]);
-    let s = wide(bytes[6]);
-    let g = pair_of(bytes[7], bytes[8]);
-    let body = check_body(bytes.len() - 9, shape, s, g);
+    let layout = Layout {
+        shape: wide(bytes[5]),
+        s: wide(bytes[6]),
+        g: pair_of(bytes[7], bytes[8]),
+    };
+    let body = check_body(bytes.len() - 9, layout);
     if body != 0 {
         return Header::Refused(body);
     }
-    Header::Image { shape, s, g }
+    Header::Image(layout)
 }
 
 // How many whole words stand after the header of a file of `len` bytes.
@@ -32,12 +35,6 @@ pub fn word_count(len: usize) -> usize
     ensures { λ r. ⌜ r ≡ wordCount len ⌝ }
 {
     if len < 9 { 0 } else { (len - 9) / 4 }
-}
-
-fn least(a: usize, b: usize) -> usize
-    ensures { λ r. ⌜ r ≡ min a b ⌝ }
-{
-    if a < b { a } else { b }
 }
 
 // Copies the words after the header, as many as fit.

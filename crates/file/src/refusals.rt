@@ -4,6 +4,7 @@ ghost use Prim.Native.Nat.{_+_, _<_};
 ghost use lib.ListN.{length};
 ghost use Rattle.file.specs.BigEndian.{pairOf, wordAt};
 ghost use Rattle.file.specs.Refusal.{frameRefusal, bodyRefusal};
+use layout::Layout;
 
 // The number that one byte holds.
 pub(crate) fn wide(byte: u8) -> u32
@@ -50,15 +51,15 @@ pub(crate) fn check_frame(bytes: &[u8]) -> u32
 }
 
 // 1, 2, 3 and 4: the layout, and the bytes after the header.
-pub(crate) fn check_body(body: usize, shape: u32, s: u32, g: u32) -> u32
-    ensures { λ r. ⌜ r ≡ bodyRefusal body shape s g ⌝ }
+pub(crate) fn check_body(body: usize, layout: Layout) -> u32
+    ensures { λ r. ⌜ r ≡ bodyRefusal body layout ⌝ }
 {
-    let refused = store::check_geometry(shape, s, g);
+    let refused = layout.check();
     if refused != 0 {
         return refused;
     }
     if body % 4 != 0 {
         return 4;
     }
-    store::check_layout(body / 4, shape, s, g)
+    layout.check_image(body / 4)
 }

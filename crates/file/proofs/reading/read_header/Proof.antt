@@ -1,26 +1,43 @@
 -- `file::reading::read_header` meets its contract: refused by the frame, by the body, or the layout that the bytes name. Assumes nothing.
-use Prim.Native.Nat.{_≤_}
-use mathlib.Core.Path.{_≡_, sym, _∙_}
+use Prim.Native.Nat.{ℕ, _≤_}
+use mathlib.Core.Path.{_≡_, refl, sym, ap, _∙_}
 use native.Mathlib.Omega.{arith}
 use borrow.Author.Needs.{needs}
 use lib.ListN.{length}
+use Rattle.layout.specs.declared.Layout.{Layout}
+use Rattle.layout.specs.Layout.{layoutOf}
+use Rattle.file.specs.declared.Header.the-variants.{Image}
+use Rattle.file.specs.Bytes.{layoutIn}
 use Rattle.file.specs.Refusal.{frameRefusal, fileRefusal}
 use Rattle.file.proofs.Ladder.{framed, frame-stands, frame-passed, header-refused, header-image}
 use Rattle.file.proofs.reading.read_header.Statement.{statement}
 use Rattle.file.proofs.reading.read_header.Tie as tie
 
+-- the start, from past the frame, and where the frame was passed, from where the header has been read
+abbrev start : tie.Else1 → tie.Start
+start c = c .before .before .before
+
+abbrev framing : tie.After-pair-of → tie.Else1
+framing c = c .before .before .before .before .before .before .before
+
+same-layout : {a b c d e f : ℕ} → a ≡ d → b ≡ e → c ≡ f → layoutOf a b c ≡ layoutOf d e f
+same-layout {a} {b} {c} p q r = rw (p, q, r) refl
+
 -- past the frame the header is whole
-passes : (c : tie.Else1) → frameRefusal (c .before .before .before .args .bytes .now) ≡ 0
+passes : (c : tie.Else1) → frameRefusal (start c .args .bytes .now) ≡ 0
 passes c = sym (c .before .check-frame .ensures) ∙ c .if1 .left
 
-whole : (c : tie.Else1) → 9 ≤ length (c .before .before .before .args .bytes .now)
+whole : (c : tie.Else1) → 9 ≤ length (start c .args .bytes .now)
 whole c = framed _ (passes c) .least
 
+-- the layout that was read is the one in the bytes
+read : (c : tie.After-pair-of) → layoutOf (c .before .before .before .before .before .wide .result) (c .before .before .before .wide2 .result) (c .pair-of .result)
+    ≡ layoutIn (start (framing c) .args .bytes .now)
+read c = same-layout (c .before .before .before .before .before .wide .ensures) (c .before .before .before .wide2 .ensures) (c .pair-of .ensures .0)
+
 -- and the file is refused as its body is
-refusal : (c : tie.After-check-body) → fileRefusal (c .before .before .before .before .before .before .before .before .before .before .before .args .bytes .now) ≡ c .check-body .result
-refusal c =
-    frame-passed _ (passes (c .before .before .before .before .before .before .before .before))
-    ∙ rw (← c .before .before .before .before .before .before .wide .ensures, ← c .before .before .before .before .wide2 .ensures, ← c .before .pair-of .ensures .0) (sym (c .check-body .ensures))
+refusal : (c : tie.After-check-body) → fileRefusal (start (framing (c .before)) .args .bytes .now) ≡ c .check-body .result
+refusal c = frame-passed _ (passes (framing (c .before))) ∙ rw (← read (c .before)) (sym (c .check-body .ensures))
 
 check-frame-requires : tie.Need-check-frame-requires
 check-frame-requires c κs = search needs
@@ -50,7 +67,7 @@ pair-of-requires : tie.Need-pair-of-requires
 pair-of-requires c κs = search needs
 
 sub-check-body : tie.Need-sub-check-body
-sub-check-body c = omega (arith, whole (c .before .before .before .before .before .before .before))
+sub-check-body c = omega (arith, whole (framing c))
 
 check-body-requires : tie.Need-check-body-requires
 check-body-requires c κs = search needs
@@ -59,10 +76,7 @@ returns-2 : tie.Need-returns-2
 returns-2 c = header-refused _ _ (refusal (c .before)) (c .if2 .taken)
 
 returns-3 : tie.Need-returns-3
-returns-3 c =
-    let found = c .before in
-    rw (found .before .before .before .before .before .before .wide .ensures, found .before .before .before .before .wide2 .ensures, found .before .pair-of .ensures .0)
-    (header-image (found .before .before .before .before .before .before .before .before .before .before .before .args .bytes .now) (refusal found ∙ c .if2 .left))
+returns-3 c = ap Image (read (c .before .before)) ∙ header-image _ (refusal (c .before) ∙ c .if2 .left)
 
 pub read-header-spec : {M : Type 1} → statement M
 read-header-spec =
