@@ -4,49 +4,51 @@ use mathlib.Core.Path.{_≡_, refl, ap, _∙_}
 use mathlib.Core.List.{List}
 use lib.ListN.{length}
 use Rattle.ground.specs.Choice.{ifZero}
+use Rattle.ground.specs.Ladder.{_then_}
+use Rattle.ground.proofs.Choices.{refused-kept}
+use Rattle.layout.specs.declared.Layout.{Layout}
+use Rattle.layout.specs.Layout.{blocks}
+use Rattle.layout.specs.Refusal.{layoutRefusal, imageRefusal}
 use Rattle.rota.specs.declared.Asked.{Asked as RotaAsked}
 use Rattle.rota.specs.declared.Turned.{Turned as RotaTurned}
 use Rattle.rota.specs.Numbers.{placeNumber}
 use Rattle.rota.specs.Record.{askNumber, turnNumber}
 use Rattle.rota.proofs.Numbers as rotaNumbers
-use Rattle.store.specs.Layout.{blocks}
-use Rattle.ground.specs.Ladder.{_then_}
-use Rattle.ground.proofs.Choices.{refused-kept}
-use Rattle.store.specs.Refusal.{geometryRefusal, layoutRefusal}
+use Rattle.store.specs.Fresh.{freshAfter}
 use Rattle.patrol.specs.declared.Record.{Record}
-use Rattle.patrol.specs.Format.{noRecord, formatted, formatAfter}
+use Rattle.patrol.specs.Format.{noRecord, formatted}
 use Rattle.patrol.specs.Ask.{withRota, asked}
-use Rattle.patrol.specs.Turn.{patrolled, dueNow, turned, turnAfter}
+use Rattle.patrol.specs.Turn.{patrolled, turnedNow, turned, turnAfter}
 use Rattle.patrol.specs.Numbers.{reportNumber}
 use Rattle.patrol.proofs.Numbers.{askedBy, ask-number, turnedBy, turn-number}
 
-pub format-kept : (image : List ℕ) (shape s g : ℕ) → (formatted image shape s g .number ≡ 0 → ⊥)
-    → (formatted image shape s g .back ≡ noRecord) × (formatAfter image shape s g ≡ image)
-unfolding formatted formatAfter
-format-kept image shape s g ne =
-    (refused-kept (layoutRefusal (length image) shape s g) _ noRecord ne, refused-kept (layoutRefusal (length image) shape s g) _ image ne)
+pub format-kept : (image : List ℕ) (layout : Layout) → (formatted image layout .number ≡ 0 → ⊥)
+    → (formatted image layout .back ≡ noRecord) × (freshAfter image layout ≡ image)
+unfolding formatted freshAfter
+format-kept image layout ne =
+    (refused-kept (imageRefusal (length image) layout) _ noRecord ne, refused-kept (imageRefusal (length image) layout) _ image ne)
 
 module _ (r : Record) where
   pub ask-kept : (block : ℕ) → (placeNumber (asked r block .place) ≡ 0 → ⊥) → asked r block .back ≡ r
   unfolding asked
   ask-kept block ne =
-      go (geometryRefusal (r .shape) (r .s) (r .g)) (askNumber (blocks (r .s) (r .g)) (r .rota) block) refl (λ z. ne (ask-number r block ∙ z))
+      go (layoutRefusal (r .layout)) (askNumber (blocks (r .layout)) (r .rota) block) refl (λ z. ne (ask-number r block ∙ z))
     where
-      go : (number later : ℕ) → askNumber (blocks (r .s) (r .g)) (r .rota) block ≡ later → (number then later ≡ 0 → ⊥) → askedBy r block number .back ≡ r
+      go : (number later : ℕ) → askNumber (blocks (r .layout)) (r .rota) block ≡ later → (number then later ≡ 0 → ⊥) → askedBy r block number .back ≡ r
       go zero zero e some = absurd (some refl)
       go zero (suc later) e some =
-          ap (λ (a : RotaAsked). withRota r (a .rota)) (rotaNumbers.ask-refused (blocks (r .s) (r .g)) (r .rota) block later e)
+          ap (λ (a : RotaAsked). withRota r (a .rota)) (rotaNumbers.ask-refused (blocks (r .layout)) (r .rota) block later e)
       go (suc number) later e some = refl
 
   pub turn-kept : (image : List ℕ) → (reportNumber (turned r image .report) ≡ 0 → ⊥) → (turned r image .back ≡ r) × (turnAfter r image ≡ image)
   unfolding turned turnAfter
   turn-kept image ne =
-      go (layoutRefusal (length image) (r .shape) (r .s) (r .g)) (turnNumber (blocks (r .s) (r .g)) (r .rota)) refl (λ z. ne (turn-number r image ∙ z))
+      go (imageRefusal (length image) (r .layout)) (turnNumber (blocks (r .layout)) (r .rota)) refl (λ z. ne (turn-number r image ∙ z))
     where
-      go : (number later : ℕ) → turnNumber (blocks (r .s) (r .g)) (r .rota) ≡ later → (number then later ≡ 0 → ⊥)
-          → (turnedBy r image number .back ≡ r) × (ifZero number (patrolled r image (dueNow r)) image ≡ image)
+      go : (number later : ℕ) → turnNumber (blocks (r .layout)) (r .rota) ≡ later → (number then later ≡ 0 → ⊥)
+          → (turnedBy r image number .back ≡ r) × (ifZero number (patrolled (r .layout) image (turnedNow r .due)) image ≡ image)
       go zero zero e some = absurd (some refl)
       go zero (suc later) e some =
-          let kept = rotaNumbers.turn-refused (blocks (r .s) (r .g)) (r .rota) later e in
-          (ap (λ (a : RotaTurned). withRota r (a .rota)) kept, ap (λ (a : RotaTurned). patrolled r image (a .due)) kept)
+          let kept = rotaNumbers.turn-refused (blocks (r .layout)) (r .rota) later e in
+          (ap (λ (a : RotaTurned). withRota r (a .rota)) kept, ap (λ (a : RotaTurned). patrolled (r .layout) image (a .due)) kept)
       go (suc number) later e some = (refl, refl)

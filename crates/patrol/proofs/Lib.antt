@@ -1,8 +1,5 @@
-mod Cleared
-mod Calls
-mod Visits
-mod Told
-pub mod Broken
+pub mod Calls
+pub mod Visits
 pub mod Numbers
 pub mod Kept
 pub mod Reasons

@@ -2,23 +2,24 @@
 -- A refused ask hands back the record that it got. Assumes nothing.
 use Prim.Native.Nat.{ℕ}
 use Rattle.ground.specs.Choice.{ifZero}
+use Rattle.layout.specs.Layout.{blocks}
+use Rattle.layout.specs.Refusal.{layoutRefusal}
 use Rattle.rota.specs.declared.Rota.{Rota}
 use Rattle.rota.specs.declared.Place.the-variants.{Refused}
-use Rattle.rota.specs.Record.{asked as rotaAsked}
-use Rattle.store.specs.Layout.{blocks}
-use Rattle.store.specs.Refusal.{geometryRefusal}
+use Rattle.rota.specs.Record.{rotaAsked}
 use Rattle.patrol.specs.declared.Record.{Record}
 use Rattle.patrol.specs.declared.Asked.{Asked}
 
 -- the record with another rota
 abbrev pub withRota : Record → Rota → Record
-withRota r rota = record { shape = r .shape; s = r .s; g = r .g; rota = rota }
+withRota r rota = record { layout = r .layout; rota = rota }
+
+-- the rota's own answer to an ask
+abbrev pub askedNow : Record → ℕ → Rattle.rota.specs.declared.Asked.Asked
+askedNow r block = rotaAsked (blocks (r .layout)) (r .rota) block
 
 unfoldable pub asked : Record → ℕ → Asked
 asked r block =
-    ifZero (geometryRefusal (r .shape) (r .s) (r .g))
-    (record {
-      place = rotaAsked (blocks (r .s) (r .g)) (r .rota) block .place;
-      back = withRota r (rotaAsked (blocks (r .s) (r .g)) (r .rota) block .rota);
-    })
-    (record { place = Refused (geometryRefusal (r .shape) (r .s) (r .g)); back = r })
+    ifZero (layoutRefusal (r .layout))
+    (record { place = askedNow r block .place; back = withRota r (askedNow r block .rota) })
+    (record { place = Refused (layoutRefusal (r .layout)); back = r })

@@ -1,36 +1,35 @@
--- Format sets every word to zero and gives a record: the shape, s, G, next block 0, no asks waiting.
+-- Format makes the image fresh and gives a record: the layout, next block 0, no asks waiting.
 -- A refused format, which was handed no record, gives one of zeros. Assumes nothing.
 use Prim.Native.Nat.{ℕ}
 use mathlib.Core.Path.{_≡_}
 use mathlib.Core.List.{List}
-use lib.ListN.{length, replicate}
-use Rattle.rota.specs.Record.{fresh}
-use Rattle.store.specs.Refusal.{layoutRefusal}
+use lib.ListN.{length}
 use Rattle.ground.specs.Choice.{ifZero}
+use Rattle.layout.specs.declared.Layout.{Layout}
+use Rattle.layout.specs.Layout.{layoutOf}
+use Rattle.layout.specs.Refusal.{imageRefusal}
+use Rattle.rota.specs.Record.{fresh}
+use Rattle.store.specs.Fresh.{freshAfter}
 use Rattle.patrol.specs.declared.Record.{Record}
 use Rattle.patrol.specs.declared.Formatted.{Formatted}
 
 -- the record of a fresh store
-abbrev pub freshRecord : ℕ → ℕ → ℕ → Record
-freshRecord shape s g = record { shape = shape; s = s; g = g; rota = fresh }
+abbrev pub freshRecord : Layout → Record
+freshRecord layout = record { layout = layout; rota = fresh }
 
 -- the record of zeros
 abbrev pub noRecord : Record
-noRecord = freshRecord 0 0 0
+noRecord = freshRecord (layoutOf 0 0 0)
 
 -- what format answers
-unfoldable pub formatted : List ℕ → ℕ → ℕ → ℕ → Formatted
-formatted image shape s g =
+unfoldable pub formatted : List ℕ → Layout → Formatted
+formatted image layout =
     record {
-      number = layoutRefusal (length image) shape s g;
-      back = ifZero (layoutRefusal (length image) shape s g) (freshRecord shape s g) noRecord;
+      number = imageRefusal (length image) layout;
+      back = ifZero (imageRefusal (length image) layout) (freshRecord layout) noRecord;
     }
 
--- the image that format leaves
-unfoldable pub formatAfter : List ℕ → ℕ → ℕ → ℕ → List ℕ
-formatAfter image shape s g = ifZero (layoutRefusal (length image) shape s g) (replicate (length image) 0) image
-
 -- the promise of format: what it answers, and the image that it leaves
-pub record Formats (image : List ℕ) (shape s g : ℕ) (answer : Formatted) (after : List ℕ) : Type 0 where
-  pub answers : answer ≡ formatted image shape s g
-  pub leaves : after ≡ formatAfter image shape s g
+pub record Formats (image : List ℕ) (layout : Layout) (answer : Formatted) (after : List ℕ) : Type 0 where
+  pub answers : answer ≡ formatted image layout
+  pub leaves : after ≡ freshAfter image layout

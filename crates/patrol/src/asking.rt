@@ -9,9 +9,8 @@ impl Record {
     pub fn ask(self, block: u32) -> Asked
         ensures { λ r. ⌜ r ≡ asked self block ⌝ }
     {
-        let s = self.s;
-        let g = self.g;
-        let number = store::check_geometry(self.shape, s, g);
+        let layout = self.layout;
+        let number = layout.check();
         if number != 0 {
             return Asked {
                 place: Place::Refused(number),
@@ -19,7 +18,7 @@ impl Record {
             };
         }
         let rota = self.rota;
-        let answer = rota.ask(g * s, block);
+        let answer = rota.ask(layout.blocks() as u32, block);
         let place = answer.place;
         let moved = answer.rota;
         let mut back = self;

@@ -5,14 +5,13 @@ mod turning;
 
 use block::Verdict;
 pub use formatting::format;
+use layout::Layout;
 use rota::Place;
 use rota::Rota;
 
 // The layout that the store was formatted with, and whose go it is.
 pub struct Record {
-    pub shape: u32,
-    pub s: u32,
-    pub g: u32,
+    pub layout: Layout,
     pub rota: Rota,
 }
 

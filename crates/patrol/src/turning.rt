@@ -1,23 +1,21 @@
 // Turn: the patrol's block visited, and then the ask at place 1.
 ghost use mathlib.Core.Path.{_≡_};
 ghost use lib.ListN.{length};
-ghost use Rattle.store.specs.Refusal.{visitRefusal};
-ghost use Rattle.patrol.specs.Turn.{seen, visited, reported, patrolled, Turns};
+ghost use Rattle.patrol.specs.Turn.{reported, patrolled, Turns};
 ghost use Rattle.patrol.specs.Inner.{Ready};
 use super::Record;
 use super::Report;
 use super::Turned;
-use block::Verdict;
+use layout::Layout;
 use rota::Due;
-use store::Answer;
+use store::visit_accepted;
 
 impl Record {
     pub fn turn(self, image: &mut [u32]) -> Turned
         ensures { λ r. ⌜ Turns self (now (image .entry)) r (now (image .exit)) ⌝ }
     {
-        let s = self.s;
-        let g = self.g;
-        let number = store::check_layout(image.len(), self.shape, s, g);
+        let layout = self.layout;
+        let number = layout.check_image(image.len());
         if number != 0 {
             return Turned {
                 report: Report::Refused(number),
@@ -25,43 +23,31 @@ impl Record {
             };
         }
         let rota = self.rota;
-        let answer = rota.turn(g * s);
+        let answer = rota.turn(layout.blocks() as u32);
         let due = answer.due;
         let moved = answer.rota;
-        let report = self.visit_due(image, due);
+        let report = visit_due(layout, image, due);
         let mut back = self;
         back.rota = moved;
         Turned { report, back }
     }
+}
 
-    // The blocks that are due, visited in their order.
-    fn visit_due(self, image: &mut [u32], due: Due) -> Report
-        requires { ⌜ Ready self (length (now image)) due ⌝ }
-        ensures { λ r. ⌜ (r ≡ reported self (now (image .entry)) due) × (now (image .exit) ≡ patrolled self (now (image .entry)) due) ⌝ }
-    {
-        match due {
-            Due::Refused(number) => Report::Refused(number),
-            Due::One(first) => {
-                let verdict = self.visit_one(image, first);
-                Report::One(first, verdict)
-            }
-            Due::Two(first, second) => {
-                let patrol = self.visit_one(image, first);
-                let ask = self.visit_one(image, second);
-                Report::Two(first, patrol, second, ask)
-            }
+// The blocks that are due, visited in their order.
+fn visit_due(layout: Layout, image: &mut [u32], due: Due) -> Report
+    requires { ⌜ Ready layout (length (now image)) due ⌝ }
+    ensures { λ r. ⌜ (r ≡ reported layout (now (image .entry)) due) × (now (image .exit) ≡ patrolled layout (now (image .entry)) due) ⌝ }
+{
+    match due {
+        Due::Refused(number) => Report::Refused(number),
+        Due::One(first) => {
+            let verdict = visit_accepted(image, layout, first);
+            Report::One(first, verdict)
         }
-    }
-
-    // A block visited that nothing refuses.
-    fn visit_one(self, image: &mut [u32], block: u32) -> Verdict
-        requires { ⌜ visitRefusal (length (now image)) (self .shape) (self .s) (self .g) block ≡ 0 ⌝ }
-        ensures { λ r. ⌜ (r ≡ seen self (now (image .entry)) block) × (now (image .exit) ≡ visited self (now (image .entry)) block) ⌝ }
-    {
-        let answer = store::visit(image, self.shape, self.s, self.g, block);
-        match answer {
-            Answer::Found(verdict) => verdict,
-            Answer::Refused(_) | Answer::Stored => Verdict::Clean,
+        Due::Two(first, second) => {
+            let patrol = visit_accepted(image, layout, first);
+            let ask = visit_accepted(image, layout, second);
+            Report::Two(first, patrol, second, ask)
         }
     }
 }

@@ -1,4 +1,4 @@
--- The numbers of an answer are those of its call's refusals, they tell the answers noneTwice, and no refusal has the number 0.
+-- The numbers of an answer are those of its call's refusals, they tell the answers apart, and no refusal has the number 0.
 -- Assumes nothing.
 use Prim.Native.Nat.{ℕ, zero, suc}
 use mathlib.Core.Bool.{true≢false, false≢true}

@@ -1,43 +1,66 @@
 -- `Record::turn` meets its contract. Assumes nothing.
-use mathlib.Core.Path.{sym, _∙_}
+use mathlib.Core.Path.{_≡_, sym, _∙_}
 use native.Mathlib.Omega.{arith}
 use borrow.Author.Needs.{needs}
-use Rattle.patrol.proofs.Calls.{few-blocks, layout-geometry, turn-refused, turn-ready, turn-reported}
+use lib.ListN.{length}
+use Rattle.layout.specs.Refusal.{imageRefusal}
+use Rattle.layout.proofs.Ladder.{image-layout}
+use Rattle.patrol.specs.Turn.{turnedNow}
+use Rattle.patrol.proofs.Calls.{few-blocks, turn-refused, turn-ready, turn-reported}
 use Rattle.patrol.proofs.Record.turn.Statement.{statement}
 use Rattle.patrol.proofs.Record.turn.Tie as tie
 
-check-layout-requires : tie.Need-check-layout-requires
-check-layout-requires c κs = search needs
+-- the start, from where the image is accepted, and that point, from where the rota has answered
+abbrev start : tie.Else1 → tie.Start
+start c = c .before .before .before .before
+
+abbrev checked : tie.After-turn → tie.Else1
+checked c = c .before .before .before
+
+passed : (c : tie.Else1) → imageRefusal (length (start c .args .image .now)) (start c .args .self .layout) ≡ 0
+passed c = sym (c .before .check-image .ensures) ∙ c .if1 .left
+
+answered : (c : tie.After-turn) → c .turn .result ≡ turnedNow (start (checked c) .args .self)
+answered c = rw (← c .before .blocks2 .ensures) (c .turn .ensures)
+
+check-image-requires : tie.Need-check-image-requires
+check-image-requires c κs = search needs
 
 returns : tie.Need-returns
-returns c = turn-refused _ _ _ (c .before .check-layout .ensures) (c .if1 .taken)
+returns c = turn-refused _ _ _ (c .before .check-image .ensures) (c .if1 .taken)
 
-mul-turn : tie.Need-mul-turn
-mul-turn c =
-    omega (arith, few-blocks _ _ _ (layout-geometry _ _ _ _ (sym (c .before .before .check-layout .ensures) ∙ c .before .if1 .left)))
+blocks-requires : tie.Need-blocks-requires
+blocks-requires c κs = search needs
+
+cast-turn : tie.Need-cast-turn
+cast-turn c = omega (arith, c .blocks2 .ensures, few-blocks _ (image-layout _ _ (passed (c .before .before))))
 
 turn-requires : tie.Need-turn-requires
 turn-requires c κs = search needs
 
 visit-due-requires : tie.Need-visit-due-requires
 visit-due-requires c κs =
-    turn-ready _ _ (c .before .before .before .before .if1 .left) (c .before .before .turn .result) (c .before .before .turn .ensures) _ (c .before .before .before .before .before .check-layout .ensures)
+    let answer = c .before .before in
+    turn-ready _ _ (checked answer .if1 .left) (answer .turn .result) (answered answer) _ (checked answer .before .check-image .ensures)
 
 same-length : tie.Need-same-length
 same-length c = search needs
 
 returns-2 : tie.Need-returns-2
 returns-2 c =
-    turn-reported _ _ (c .before .before .before .before .before .before .before .if1 .left) (c .before .before .before .before .before .turn .result) (c .before .before .before .before .before .turn .ensures) _ (c .before .before .before .before .before .before .before .before .check-layout .ensures) _ _
-    (c .before .before .visit-due .ensures)
+    let met = c .before .before in
+    let answer = met .before .before .before in
+    turn-reported _ _ (checked answer .if1 .left) (answer .turn .result) (answered answer) _ (checked answer .before .check-image .ensures) _ _
+    (met .visit-due .ensures)
 
 pub turn-spec : {M : Type 1} → statement M
 turn-spec =
     tie.close
     (tie.spec
-    check-layout-requires
+    check-image-requires
     returns
-    mul-turn
+    blocks-requires
+    cast-turn
     turn-requires
     visit-due-requires
     same-length

@@ -1,78 +1,28 @@
--- `patrol::formatting::format` meets its contract: the words passed are zero, and the others are as they were. Assumes nothing.
-use Prim.Native.Nat.{_≤_, _-_}
-use mathlib.Core.Path.{_≡_, refl, ap, _∙_}
-use native.Mathlib.Omega.{arith}
+-- `patrol::formatting::format` meets its contract: the store makes the image fresh, and the record is that of its layout. Assumes nothing.
 use borrow.Author.Needs.{needs}
-use lib.ListN.{length, set}
-use Rattle.patrol.proofs.Cleared.{cleared, cleared-next, length-cleared, cleared-all}
 use Rattle.patrol.proofs.Calls.{format-refused, format-done}
 use Rattle.patrol.proofs.formatting.format.Statement.{statement}
 use Rattle.patrol.proofs.formatting.format.Tie as tie
 
-abbrev Inv-loop : tie.InvT-loop
-Inv-loop image₀ shape s g number rota i₀ i-end image i = (i ≤ length image₀) × (i-end ≡ length image₀) × (image ≡ cleared i image₀)
-
-abbrev μ-loop : tie.MeasureT-loop
-μ-loop image₀ shape s g number rota i₀ i-end image i = i-end - i
-
--- the image keeps its length
-long : (c : tie.At-loop Inv-loop μ-loop) → length (c .loop .image) ≡ length (c .before .before .before .before .before .args .image .now)
-long c = ap length (c .loop .inv .2) ∙ length-cleared _ _ (c .loop .inv .0)
-
-check-layout-requires : tie.Need-check-layout-requires Inv-loop μ-loop
-check-layout-requires c κs = search needs
-
-fresh-requires : tie.Need-fresh-requires Inv-loop μ-loop
+fresh-requires : tie.Need-fresh-requires
 fresh-requires c κs = search needs
 
-returns : tie.Need-returns Inv-loop μ-loop
-returns c = format-refused _ _ _ _ _ _ (c .before .before .check-layout .ensures) (c .before .fresh .ensures) (c .if1 .taken)
+fresh-requires-2 : tie.Need-fresh-requires-2
+fresh-requires-2 c κs = search needs
 
-loop-holds : tie.Need-loop-holds Inv-loop μ-loop
-loop-holds c = (omega arith, refl, refl)
+same-length : tie.Need-same-length
+same-length c = search needs
 
-mul-image : tie.Need-mul-image Inv-loop μ-loop
-mul-image c = search needs
+returns : tie.Need-returns
+returns c = format-refused _ _ _ _ (c .before .before .before .before .fresh .ensures) _ (c .before .fresh2 .ensures) (c .if1 .taken)
 
-slice-write-image : tie.Need-slice-write-image Inv-loop μ-loop
-slice-write-image c = let l = long (c .before) in omega arith
+same-length-2 : tie.Need-same-length-2
+same-length-2 c = search needs
 
-add-i : tie.Need-add-i Inv-loop μ-loop
-add-i c = search needs
-
-loop-less : tie.Need-loop-less Inv-loop μ-loop
-loop-less c = search needs
-
-loop-again : tie.Need-loop-again Inv-loop μ-loop
-loop-again c = (
-  omega arith,
-  c .before .loop .inv .1,
-  ap (λ l. set l (c .before .loop .i) 0) (c .before .loop .inv .2) ∙ cleared-next _ (c .before .loop .i) (omega arith),
-)
-
-same-length : tie.Need-same-length Inv-loop μ-loop
-same-length c = long (c .before)
-
-returns-2 : tie.Need-returns-2 Inv-loop μ-loop
-returns-2 c =
-    let image = c .before .before .before .before .before .before .args .image .now in
-    format-done image _ _ _ _ _ (c .before .before .before .before .check-layout .ensures) (c .before .before .before .fresh .ensures) (c .before .before .if1 .left)
-    _ (c .before .loop .inv .2 ∙ cleared-all image (c .before .loop .i) (omega arith))
+returns-2 : tie.Need-returns-2
+returns-2 c = format-done _ _ _ _ (c .before .before .before .before .fresh .ensures) _ (c .before .fresh2 .ensures) (c .if1 .left)
 
 pub format-spec : {M : Type 1} → statement M
 format-spec =
     tie.close
-    (tie.spec
-    Inv-loop
-    μ-loop
-    check-layout-requires
-    fresh-requires
-    returns
-    loop-holds
-    mul-image
-    slice-write-image
-    add-i
-    loop-less
-    loop-again
-    same-length
-    returns-2)
+    (tie.spec fresh-requires fresh-requires-2 same-length returns same-length-2 returns-2)
