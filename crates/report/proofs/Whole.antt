@@ -27,13 +27,13 @@ use Rattle.file.specs.Reason.{fileRules}
 use Rattle.file.specs.Header.{headerIf, headerOf}
 use Rattle.file.proofs.Ladder.{Accepted, accepted, file-first}
 use Rattle.report.specs.declared.Tally.{Tally}
-use Rattle.report.specs.Text.{ascii, decimal}
-use Rattle.report.specs.Page.{page, writtenAll, joined}
-use Rattle.report.specs.Lines.{named, lineEnd, refusalLine, imageLine, verdictText, blockLine, totalLine}
+use Rattle.text.specs.Text.{ascii, decimal, named, lineEnd}
+use Rattle.text.specs.Page.{page, writtenAll, joined}
+use Rattle.report.specs.Lines.{refusalLine, imageLine, verdictName, blockLine, totalLine}
 use Rattle.report.specs.Report.{blockLines, tallyBelow, verdictAt, imageReport, reportFor, reportOf, room?, Reports}
 use Rattle.report.proofs.Counts.{Within, verdict-most, tally-within}
-use Rattle.report.proofs.Decimal.{decimal-short}
-use Rattle.report.proofs.Pages.{all-fit}
+use Rattle.text.proofs.Decimal.{decimal-short}
+use Rattle.text.proofs.Pages.{all-fit}
 
 -- ---- the lines
 
@@ -62,7 +62,7 @@ image-short shape s g n hshape hs hg hn =
     (both (both (both (named-short "image shape " 3 shape hshape) (named-short " interleave " 3 s hs)) (named-short " groups " 3 g hg)) (named-short " blocks " 3 n hn))
     one-end
 
-verdict-short : (v : Verdict) → verdictCount v ≤ 32 → Short (verdictText v) 10
+verdict-short : (v : Verdict) → verdictCount v ≤ 32 → Short (named (verdictName v) (verdictCount v)) 10
 verdict-short Clean h = record { few = omega (arith, named-short " clean " 1 0 (omega arith) .few) }
 verdict-short (Mended m) h = named-short " mended " 1 m (omega arith)
 verdict-short (Lost m) h = record { few = omega (arith, named-short " lost " 1 m (omega arith) .few) }

@@ -11,9 +11,9 @@ use Rattle.store.specs.Visit.{visitAnswer, visitAfter}
 use Rattle.report.specs.Inner.{verdictIn}
 use Rattle.report.specs.Lines.{blockLine, totalLine, counted}
 use Rattle.report.specs.Report.{verdictAt, imageReport, visitedBelow, blockLines, tallyBelow}
-use Rattle.report.specs.Page.{written, page, writtenAll}
+use Rattle.text.specs.Page.{written, page, writtenAll}
 use Rattle.report.proofs.Counts.{verdict-most, tally-within}
-use Rattle.report.proofs.Pages.{written-last}
+use Rattle.text.proofs.Pages.{written-last}
 use Rattle.report.proofs.Visited.{visit-finds, layout-geometry}
 use Rattle.report.proofs.reporting.report_image.Statement.{statement}
 use Rattle.report.proofs.reporting.report_image.Tie as tie

@@ -6,7 +6,7 @@ use borrow.Author.Needs.{needs}
 use Rattle.store.specs.Layout.{blocks}
 use Rattle.store.specs.Refusal.{layoutRefusal}
 use Rattle.file.proofs.Layouts.{words-fill}
-use Rattle.report.specs.Page.{page, writtenAll}
+use Rattle.text.specs.Page.{page, writtenAll}
 use Rattle.report.specs.Report.{visitedBelow, imageReport}
 use Rattle.report.proofs.reporting.report_words.Statement.{statement}
 use Rattle.report.proofs.reporting.report_words.Tie as tie

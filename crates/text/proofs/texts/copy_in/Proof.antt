@@ -1,4 +1,4 @@
--- `report::texts::copy_in` meets its contract. The loop's invariant: the first k bytes of the text are copied. Assumes nothing.
+-- `text::texts::copy_in` meets its contract. The loop's invariant: the first k bytes of the text are copied. Assumes nothing.
 use Prim.Native.Nat.{_+_, ℕ, _≤_, _-_}
 use mathlib.Core.Path.{ap, _∙_, _≡_, refl}
 use mathlib.Core.List.{List}
@@ -7,9 +7,9 @@ use native.Mathlib.Numerals.{add-one}
 use borrow.Author.Needs.{needs}
 use lib.ListN.{getD, set, length, length-set}
 use lib.Seq.{paste, paste-zero, paste-suc}
-use Rattle.report.proofs.Pages.{pasted}
-use Rattle.report.proofs.texts.copy_in.Statement.{statement}
-use Rattle.report.proofs.texts.copy_in.Tie as tie
+use Rattle.text.proofs.Pages.{pasted}
+use Rattle.text.proofs.texts.copy_in.Statement.{statement}
+use Rattle.text.proofs.texts.copy_in.Tie as tie
 
 abbrev Inv-loop : tie.InvT-loop
 Inv-loop text out₀ at k₀ k-end out k = (k ≤ length text) × (out ≡ paste out₀ at text k) × (length out ≡ length out₀) × (k-end ≡ length text)
