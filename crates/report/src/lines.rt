@@ -33,7 +33,8 @@ pub fn image_line(shape: u32, s: u32, g: u32, blocks: u32, out: &mut [u8], at: u
 
 // The verdict and its number.
 fn put_verdict(verdict: Verdict, line: &mut [u8], at: usize) -> usize
-    ensures { λ r. ⌜ page (now (line .exit)) r ≡ written (decimal (verdictCount verdict)) (written (ascii (verdictName verdict)) (page (now (line .entry)) at)) ⌝ }
+    ensures { λ r. ⌜ page (now (line .exit)) r
+        ≡ written (decimal (verdictCount verdict)) (written (ascii (verdictName verdict)) (page (now (line .entry)) at)) ⌝ }
 {
     match verdict {
         Verdict::Clean => put_named(b" clean ", 0, line, at),
