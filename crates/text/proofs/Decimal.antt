@@ -121,13 +121,15 @@ module _ (n rest first : ℕ) (digits : List ℕ) where
       ∙ ap (λ (k : ℕ). d ∷ drop k digits) next
 
   module _ (e : decimal n ≡ decimal rest ++ drop first digits) (some : 0 < first) (h : first ≤ length digits) where
-    pub put-last-of-more : 10 ≤ rest → decimal n ≡ decimal (rest / 10) ++ drop (first - 1) (set digits (first - 1) (digit (rest % 10)))
-    put-last-of-more l =
+    -- the last of more digits, and the others are left
+    pub put-more : 10 ≤ rest → decimal n ≡ decimal (rest / 10) ++ drop (first - 1) (set digits (first - 1) (digit (rest % 10)))
+    put-more l =
         e
         ∙ ap (λ (ds : List ℕ). ds ++ drop first digits) (decimal-more rest l)
         ∙ append-assoc (decimal (rest / 10)) (digit (rest % 10) ∷ []) (drop first digits)
         ∙ ap (λ (ds : List ℕ). decimal (rest / 10) ++ ds) (sym (put-front (digit (rest % 10)) some h))
 
+    -- the only digit left, and all stand
     pub put-only : rest < 10 → drop (first - 1) (set digits (first - 1) (digit (rest % 10))) ≡ decimal n
     put-only l =
         let same : rest % 10 ≡ rest = omega arith in

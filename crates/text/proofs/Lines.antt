@@ -1,7 +1,7 @@
 -- A line that is put together of parts, in a buffer with room for them all, is one text. Assumes nothing.
-use Prim.Native.Nat.{ℕ, _+_, _^_, _≤_, _<_}
+use Prim.Native.Nat.{ℕ, _+_, _≤_}
 use Prim.Native.String.{String}
-use mathlib.Core.Path.{_≡_, refl, sym, ap, ap₂, _∙_}
+use mathlib.Core.Path.{_≡_, refl, sym, ap, _∙_}
 use mathlib.Core.List.{List, [], _++_, append-assoc}
 use native.Mathlib.Omega.{arith}
 use mir.Syntax.{w32}
@@ -63,6 +63,7 @@ with-named {room} {most} {at} {next} {text} {bytes} {after} line name n e small 
       inside = whole .inside;
     }
 
+-- a bound that is not as close
 pub at-most : {room few next : ℕ} {text bytes : List ℕ} → Line room few text bytes next → (most : ℕ) → few ≤ most → Line room most text bytes next
 at-most line most h =
     record { place = line .place; front = line .front; few = omega (arith, line .few); size = line .size; inside = line .inside }

@@ -8,7 +8,7 @@ use borrow.Rule.Slice.PartAt.{part-to-end}
 use lib.ListN.{length, set, take, drop, length-set}
 use Rattle.text.specs.Text.{decimal}
 use Rattle.text.specs.Page.{page, written}
-use Rattle.text.proofs.Decimal.{decimal-short, decimal-some, length-more, put-last-of-more, put-only}
+use Rattle.text.proofs.Decimal.{decimal-short, decimal-some, length-more, put-more, put-only}
 use Rattle.text.proofs.numbers.put_decimal.Statement.{statement}
 use Rattle.text.proofs.numbers.put_decimal.Tie as tie
 
@@ -19,10 +19,7 @@ Inv-loop n out at digits₀ first₀ rest₀ digits first rest =
 abbrev μ-loop : tie.MeasureT-loop
 μ-loop n out at digits₀ first₀ rest₀ digits first rest = rest
 
--- ---- points of the walk
-
-abbrev Started : Type 0
-Started = tie.Start Inv-loop μ-loop
+-- ---- the points of the walk
 
 abbrev Ended : Type 0
 Ended = tie.After-loop Inv-loop μ-loop
@@ -30,7 +27,7 @@ Ended = tie.After-loop Inv-loop μ-loop
 abbrev ended : tie.After-slice-known2 Inv-loop μ-loop → Ended
 ended c = c .before .before .before .before .before .before
 
-abbrev start : tie.After-slice-known2 Inv-loop μ-loop → Started
+abbrev start : tie.After-slice-known2 Inv-loop μ-loop → tie.Start Inv-loop μ-loop
 start c = ended c .before .before .before
 
 -- the digits when the loop ends
@@ -61,7 +58,7 @@ loop-again : tie.Need-loop-again Inv-loop μ-loop
 loop-again c =
     let l = c .before .loop in
     let more : 10 ≤ l .rest = omega (arith, c .loop-test .left) in (
-      put-last-of-more _ (l .rest) (l .first) (l .digits) (l .inv .0) (sub-first (c .before)) (omega (arith, l .inv .2, l .inv .3)) more,
+      put-more _ (l .rest) (l .first) (l .digits) (l .inv .0) (sub-first (c .before)) (omega (arith, l .inv .2, l .inv .3)) more,
       omega (arith, l .inv .1, length-more (l .rest) more),
       omega (arith, l .inv .2),
       simp length-set (l .inv .3),
