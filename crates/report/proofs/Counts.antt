@@ -4,6 +4,11 @@ use mathlib.Core.Bool.{Bool, true, false}
 use mathlib.Core.Path.{_≡_, refl}
 use mathlib.Core.List.{List}
 use native.Mathlib.Omega.{arith}
+use borrow.Author.Needs.{needs}
+use denote.Enum.Declared.{row}
+use denote.Laws.{Is}
+use mir.Syntax.{w32}
+use mir.Val.{Fits, Val}
 use lib.ListN.{length}
 use Rattle.lane.specs.Bit.{pick}
 use Rattle.lane.specs.Lane.{odd}
@@ -15,6 +20,7 @@ use Rattle.block.specs.Shape.{before, rows}
 use Rattle.block.specs.Words.{lane, total}
 use Rattle.block.specs.Block.{lanesLost, bitsChanged, mendedBlock}
 use Rattle.block.specs.Verdict.{verdict, verdictOf, verdictCount}
+use Rattle.block.proofs.Verdict.{the-type}
 use Rattle.block.proofs.Blocks.{none-kept, mended-kept, changed-odd}
 use Rattle.block.proofs.Judged.{rows-fit}
 use Rattle.store.specs.Shapes.{shapeOf}
@@ -47,6 +53,12 @@ count-most shape block long =
     (λ none.
     rw (mended-kept shape block none, changed-odd shape block long (none-kept shape block none))
     (total-most 32 (λ i. odd (rows shape) (lane i block))))
+
+-- a verdict in the code has a number of 32 bits
+pub count-fits : (v : Verdict) (vs : List Val) → Is (row the-type) v vs → Fits w32 (verdictCount v)
+count-fits Clean vs h = omega arith
+count-fits (Mended m) vs h = search needs
+count-fits (Lost m) vs h = search needs
 
 -- ---- a tally
 

@@ -1,5 +1,3 @@
-pub mod Decimal
-pub mod Pages
 pub mod Counts
 pub mod Visited
 pub mod Reported

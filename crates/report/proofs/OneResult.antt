@@ -1,38 +1,35 @@
 -- One result: two outcomes that satisfy the promise of a function over a file or its report are equal, answer and every lent byte or word. Assumes nothing.
 use Prim.Native.Nat.{ℕ}
-use mathlib.Core.Path.{_≡_, sym, ap, _∙_}
+use mathlib.Core.Path.{_≡_}
 use mathlib.Core.List.{List}
 use Rattle.file.specs.declared.Header.{Header}
 use Rattle.file.specs.Header.{headerOf}
 use Rattle.file.specs.Bytes.{wordCount, wordsInto}
-use Rattle.report.specs.Page.{Page, page, written}
+use Rattle.ground.proofs.Same.{same}
+use Rattle.text.specs.Page.{page, written}
+use Rattle.text.proofs.OneResult.{parted, one-text}
 use Rattle.report.specs.Report.{Reports}
 
--- two things that are each equal to a third
-both : {A : Type 0} {a b c : A} → a ≡ c → b ≡ c → a ≡ b
-both p q = p ∙ sym q
-
 pub one-header : (bytes : List ℕ) (a b : Header) → a ≡ headerOf bytes → b ≡ headerOf bytes → a ≡ b
-one-header bytes a b p q = both p q
+one-header bytes a b p q = same p q
 
 pub one-count : (len a b : ℕ) → a ≡ wordCount len → b ≡ wordCount len → a ≡ b
-one-count len a b p q = both p q
+one-count len a b p q = same p q
 
 pub one-words : (bytes image a b : List ℕ) → a ≡ wordsInto bytes image → b ≡ wordsInto bytes image → a ≡ b
-one-words bytes image a b p q = both p q
-
--- the same page is the same bytes and the same next place
-parted : (a b : List ℕ) (m n : ℕ) → page a m ≡ page b n → (a ≡ b) × (m ≡ n)
-parted a b m n e = (ap (λ (p : Page). p .bytes) e, ap (λ (p : Page). p .next) e)
+one-words bytes image a b p q = same p q
 
 -- of every line, whatever its text
-pub one-line : (text out a b : List ℕ) (at m n : ℕ) → page a m ≡ written text (page out at) → page b n ≡ written text (page out at) → (a ≡ b) × (m ≡ n)
-one-line text out a b at m n p q = parted a b m n (both p q)
+pub one-line : (text out a b : List ℕ) (at m n : ℕ)
+    → page a m ≡ written text (page out at)
+    → page b n ≡ written text (page out at)
+    → (a ≡ b) × (m ≡ n)
+one-line = one-text
 
 pub one-report : (bytes image out : List ℕ) (m n : ℕ) (after after′ printed printed′ : List ℕ)
     → Reports bytes image out m after printed
     → Reports bytes image out n after′ printed′
     → (m ≡ n) × (after ≡ after′) × (printed ≡ printed′)
 one-report bytes image out m n after after′ printed printed′ p q =
-    let e = parted printed printed′ m n (both (p .prints) (q .prints)) in
-    (e .1, both (p .leaves) (q .leaves), e .0)
+    let e = parted (same (p .prints) (q .prints)) in
+    (e .1, same (p .leaves) (q .leaves), e .0)

@@ -1,7 +1,7 @@
 -- What a report prints and leaves, from what its steps gave. Assumes nothing.
 use Prim.Native.Nat.{ℕ, _-_, _≤_, _<_}
 use mathlib.Core.Bool.{Bool, true, false, cond}
-use mathlib.Core.Path.{_≡_, sym, ap, subst, _∙_}
+use mathlib.Core.Path.{_≡_, sym, subst}
 use mathlib.Core.List.{List, _++_}
 use native.Mathlib.Omega.{arith}
 use borrow.Author.Tests.{le-leb, lt-leb}
@@ -10,10 +10,10 @@ use Rattle.store.specs.Layout.{blocks}
 use Rattle.file.specs.declared.Header.the-variants.{Refused, Image}
 use Rattle.file.specs.Bytes.{wordCount, wordsIn}
 use Rattle.file.specs.Header.{headerOf}
-use Rattle.report.specs.Page.{Page, page, written, writtenAll}
+use Rattle.text.specs.Page.{Page, page, written, writtenAll}
 use Rattle.report.specs.Lines.{refusalLine}
 use Rattle.report.specs.Report.{visitedBelow, imageReport, reportOf, room?, Reports}
-use Rattle.report.proofs.Pages.{all-inside}
+use Rattle.text.proofs.Pages.{all-inside}
 
 -- ---- the three ways of a report
 
@@ -57,13 +57,3 @@ report-inside {bytes} {image} {out} {after} {printed} {next} r =
     (cond-inside (room? (headerOf bytes) bytes image) (writtenAll (reportOf bytes) (page out 0)) (page out 0)
     (all-inside (reportOf bytes) (page out 0) (omega arith))
     (omega arith))
-
--- ---- one result
-
-pub report-one : {bytes image out after after′ printed printed′ : List ℕ} {next next′ : ℕ}
-    → Reports bytes image out next after printed
-    → Reports bytes image out next′ after′ printed′
-    → (next ≡ next′) × (after ≡ after′) × (printed ≡ printed′)
-report-one {bytes} {image} {out} {after} {after′} {printed} {printed′} {next} {next′} a b =
-    let same : page printed next ≡ page printed′ next′ = a .prints ∙ sym (b .prints) in
-    (ap (λ (p : Page). p .next) same, a .leaves ∙ sym (b .leaves), ap (λ (p : Page). p .bytes) same)

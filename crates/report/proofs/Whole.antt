@@ -1,7 +1,7 @@
 -- A report has at most 16,384 bytes, so that a buffer of that size holds it whole. Assumes nothing.
 use Prim.Native.Nat.{ℕ, zero, suc, _+_, _-_, _*_, _^_, _≤_, _<_}
 use Prim.Native.String.{String}
-use mathlib.Core.Bool.{Bool, true, false, cond, _&&_}
+use mathlib.Core.Bool.{Bool, true, cond, _&&_}
 use mathlib.Core.Path.{_≡_, refl, ap, _∙_}
 use mathlib.Core.List.{List, [], _∷_, _++_}
 use mathlib.Core.Logic.{⊎-elim}
@@ -27,13 +27,14 @@ use Rattle.file.specs.Reason.{fileRules}
 use Rattle.file.specs.Header.{headerIf, headerOf}
 use Rattle.file.proofs.Ladder.{Accepted, accepted, file-first}
 use Rattle.report.specs.declared.Tally.{Tally}
-use Rattle.report.specs.Text.{ascii, decimal}
-use Rattle.report.specs.Page.{page, writtenAll, joined}
-use Rattle.report.specs.Lines.{named, lineEnd, refusalLine, imageLine, verdictText, blockLine, totalLine}
+use Rattle.ground.proofs.Bools.{left-part, right-part}
+use Rattle.text.specs.Text.{ascii, decimal, named, lineEnd}
+use Rattle.text.specs.Page.{page, writtenAll, joined}
+use Rattle.report.specs.Lines.{refusalLine, imageLine, verdictName, blockLine, totalLine}
 use Rattle.report.specs.Report.{blockLines, tallyBelow, verdictAt, imageReport, reportFor, reportOf, room?, Reports}
 use Rattle.report.proofs.Counts.{Within, verdict-most, tally-within}
-use Rattle.report.proofs.Decimal.{decimal-short}
-use Rattle.report.proofs.Pages.{all-fit}
+use Rattle.text.proofs.Decimal.{decimal-short}
+use Rattle.text.proofs.Pages.{all-fit}
 
 -- ---- the lines
 
@@ -41,8 +42,9 @@ use Rattle.report.proofs.Pages.{all-fit}
 record Short (text : List ℕ) (most : ℕ) : Type 0 where
   few : length text ≤ most
 
-both : {a b : List ℕ} {m n : ℕ} → Short a m → Short b n → Short (a ++ b) (m + n)
-both {a} {b} {m} {n} h k = record { few = omega (arith, length-append a b, h .few, k .few) }
+infixl 65 _and_
+_and_ : {a b : List ℕ} {m n : ℕ} → Short a m → Short b n → Short (a ++ b) (m + n)
+_and_ {a} {b} {m} {n} h k = record { few = omega (arith, length-append a b, h .few, k .few) }
 
 -- a text and a number of at most k + 1 digits
 named-short : (text : String) (k n : ℕ) → n < 10 ^ suc k → Short (named text n) (length (ascii text) + suc k)
@@ -53,34 +55,34 @@ one-end = record { few = omega arith }
 
 refusal-short : (number : ℕ) → number < 100 → Short (refusalLine number) 11
 unfolding refusalLine
-refusal-short number h = both (named-short "refused " 1 number h) one-end
+refusal-short number h = named-short "refused " 1 number h and one-end
 
 image-short : (shape s g n : ℕ) → shape < 10000 → s < 10000 → g < 10000 → n < 10000 → Short (imageLine shape s g n) 57
 unfolding imageLine
 image-short shape s g n hshape hs hg hn =
-    both
-    (both (both (both (named-short "image shape " 3 shape hshape) (named-short " interleave " 3 s hs)) (named-short " groups " 3 g hg)) (named-short " blocks " 3 n hn))
-    one-end
+    named-short "image shape " 3 shape hshape
+    and named-short " interleave " 3 s hs
+    and named-short " groups " 3 g hg
+    and named-short " blocks " 3 n hn
+    and one-end
 
-verdict-short : (v : Verdict) → verdictCount v ≤ 32 → Short (verdictText v) 10
+verdict-short : (v : Verdict) → verdictCount v ≤ 32 → Short (named (verdictName v) (verdictCount v)) 10
 verdict-short Clean h = record { few = omega (arith, named-short " clean " 1 0 (omega arith) .few) }
 verdict-short (Mended m) h = named-short " mended " 1 m (omega arith)
 verdict-short (Lost m) h = record { few = omega (arith, named-short " lost " 1 m (omega arith) .few) }
 
 block-short : (block : ℕ) (v : Verdict) → block < 10000 → verdictCount v ≤ 32 → Short (blockLine block v) 21
 unfolding blockLine
-block-short block v h c = both (both (named-short "block " 3 block h) (verdict-short v c)) one-end
+block-short block v h c = named-short "block " 3 block h and verdict-short v c and one-end
 
 total-short : (n : ℕ) (tally : Tally) → n ≤ 4096 → Within n tally → Short (totalLine tally) 51
 unfolding totalLine
 total-short n tally h w =
-    both
-    (both
-    (both
-    (both (named-short "total clean " 3 (tally .clean) (omega (arith, w .clean))) (named-short " mended " 3 (tally .mended) (omega (arith, w .mended))))
-    (named-short " lost " 3 (tally .lost) (omega (arith, w .lost))))
-    (named-short " bits " 5 (tally .bits) (omega (arith, w .bits))))
-    one-end
+    named-short "total clean " 3 (tally .clean) (omega (arith, w .clean))
+    and named-short " mended " 3 (tally .mended) (omega (arith, w .mended))
+    and named-short " lost " 3 (tally .lost) (omega (arith, w .lost))
+    and named-short " bits " 5 (tally .bits) (omega (arith, w .bits))
+    and one-end
 
 -- ---- the report of an image
 
@@ -124,9 +126,10 @@ report-short image shape s g ok few =
 -- a file has room for at most 511 blocks
 few-blocks : (bytes : List ℕ) → Accepted bytes → blocks (interleaveIn bytes) (groupsIn bytes) ≤ 511
 few-blocks bytes ok =
+    let size : Shape → ℕ = λ (shape : Shape). 4 * (rows shape * blocks (interleaveIn bytes) (groupsIn bytes)) in
     ⊎-elim
-    (λ e. omega (arith, ok .frame .most, ok .body ∙ ap (λ (shape : Shape). 4 * (rows shape * blocks (interleaveIn bytes) (groupsIn bytes))) (shape-one (shapeIn bytes) e)))
-    (λ e. omega (arith, ok .frame .most, ok .body ∙ ap (λ (shape : Shape). 4 * (rows shape * blocks (interleaveIn bytes) (groupsIn bytes))) (shape-two (shapeIn bytes) (λ q. omega arith))))
+    (λ e. omega (arith, ok .frame .most, ok .body ∙ ap size (shape-one (shapeIn bytes) e)))
+    (λ e. omega (arith, ok .frame .most, ok .body ∙ ap size (shape-two (shapeIn bytes) (λ q. omega arith))))
     (ok .geometry .shape-known)
 
 -- no rule has a number above 11
@@ -134,15 +137,14 @@ abbrev low? : List Rule → Bool
 low? [] = true
 low? (rule ∷ rules) = leb (rule .number) 11 && low? rules
 
-low-both : (a b : Bool) → T (a && b) → T a × T b
-low-both true b t = (tt, t)
-low-both false b t = absurd t
-
 first-low : (rules : List Rule) (given : ℕ) → T (low? rules) → FirstOf rules given → given ≤ 11
 first-low [] given t e = omega arith
 first-low (rule ∷ rules) given t first =
-    let low = low-both (leb (rule .number) 11) (low? rules) t in
-    ⊎-elim (λ r. omega (arith, r .1, leb→le (rule .number) 11 (low .0))) (λ r. first-low rules given (low .1) (r .1)) first
+    let low = leb (rule .number) 11 in
+    ⊎-elim
+    (λ r. omega (arith, r .1, leb→le (rule .number) 11 (left-part low (low? rules) t)))
+    (λ r. first-low rules given (right-part low (low? rules) t) (r .1))
+    first
 
 number-most : (bytes : List ℕ) → fileRefusal bytes ≤ 11
 number-most bytes = first-low (fileRules bytes) (fileRefusal bytes) tt (file-first bytes)

@@ -1,20 +1,11 @@
--- What the code computes on its way: a line that grows at its end, the verdict of an answer, a tally that has room. Assumes nothing.
-use Prim.Native.Nat.{ℕ, _+_, _≤_}
-use mathlib.Core.Path.{_≡_}
-use mathlib.Core.List.{List, _++_}
-use lib.ListN.{length, take}
+-- What the code computes on its way: the verdict of an answer, a tally that has room. Assumes nothing.
+use Prim.Native.Nat.{_≤_}
 use Rattle.block.specs.declared.Verdict.{Verdict}
 use Rattle.block.specs.declared.Verdict.the-variants.{Clean}
 use Rattle.block.specs.Verdict.{verdictCount}
 use Rattle.store.specs.declared.Answer.{Answer}
 use Rattle.store.specs.declared.Answer.the-variants.{Refused, Stored, Found}
 use Rattle.report.specs.declared.Tally.{Tally}
-
--- the first bytes of a line, up to a place, have grown by a text
-pub record Extended (text before : List ℕ) (at : ℕ) (after : List ℕ) (next : ℕ) : Type 0 where
-  pub place : next ≡ at + length text
-  pub front : take next after ≡ take at before ++ text
-  pub size : length after ≡ length before
 
 -- the verdict of an answer; a visit of an accepted layout has one, and any other answer never comes
 abbrev pub verdictIn : Answer → Verdict

@@ -5,15 +5,9 @@ use Prim.Native.String.{String}
 use mathlib.Core.List.{List, _++_}
 use Rattle.block.specs.declared.Verdict.{Verdict}
 use Rattle.block.specs.declared.Verdict.the-variants.{Clean, Mended, Lost}
+use Rattle.block.specs.Verdict.{verdictCount}
 use Rattle.report.specs.declared.Tally.{Tally}
-use Rattle.report.specs.Text.{ascii, decimal}
-
--- a text, and a number after it
-abbrev pub named : String → ℕ → List ℕ
-named text n = ascii text ++ decimal n
-
-abbrev pub lineEnd : List ℕ
-lineEnd = ascii "\n"
+use Rattle.text.specs.Text.{named, lineEnd}
 
 unfoldable pub refusalLine : ℕ → List ℕ
 refusalLine number = named "refused " number ++ lineEnd
@@ -21,13 +15,13 @@ refusalLine number = named "refused " number ++ lineEnd
 unfoldable pub imageLine : ℕ → ℕ → ℕ → ℕ → List ℕ
 imageLine shape s g blocks = named "image shape " shape ++ named " interleave " s ++ named " groups " g ++ named " blocks " blocks ++ lineEnd
 
-abbrev pub verdictText : Verdict → List ℕ
-verdictText Clean = named " clean " 0
-verdictText (Mended m) = named " mended " m
-verdictText (Lost m) = named " lost " m
+abbrev pub verdictName : Verdict → String
+verdictName Clean = " clean "
+verdictName (Mended m) = " mended "
+verdictName (Lost m) = " lost "
 
 unfoldable pub blockLine : ℕ → Verdict → List ℕ
-blockLine block verdict = named "block " block ++ verdictText verdict ++ lineEnd
+blockLine block verdict = named "block " block ++ named (verdictName verdict) (verdictCount verdict) ++ lineEnd
 
 unfoldable pub totalLine : Tally → List ℕ
 totalLine tally =

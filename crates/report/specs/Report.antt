@@ -17,7 +17,7 @@ use Rattle.file.specs.declared.Header.the-variants.{Refused, Image}
 use Rattle.file.specs.Bytes.{wordCount, wordsIn}
 use Rattle.file.specs.Header.{headerOf}
 use Rattle.report.specs.declared.Tally.{Tally}
-use Rattle.report.specs.Page.{page, writtenAll}
+use Rattle.text.specs.Page.{page, writtenAll}
 use Rattle.report.specs.Lines.{refusalLine, imageLine, blockLine, totalLine, noBlocks, counted}
 
 -- ---- an image

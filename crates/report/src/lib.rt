@@ -1,7 +1,6 @@
 // The report that is printed of an image file.
 mod lines;
 mod reporting;
-mod texts;
 
 pub use lines::block_line;
 pub use lines::image_line;

@@ -1,16 +1,14 @@
 // The lines of a report, each written at a place of a lent buffer; answers the next place.
 // A line that does not fit is not written, and the place stays.
 ghost use mathlib.Core.Path.{_≡_};
-ghost use Prim.Native.Nat.{_+_, _≤_};
-ghost use lib.ListN.{length};
-ghost use Rattle.report.specs.Page.{page, written};
-ghost use Rattle.report.specs.Inner.{Extended};
-ghost use Rattle.report.specs.Lines.{verdictText, refusalLine, imageLine, blockLine, totalLine};
+ghost use Rattle.text.specs.Text.{ascii, decimal};
+ghost use Rattle.text.specs.Page.{page, written};
+ghost use Rattle.block.specs.Verdict.{verdictCount};
+ghost use Rattle.report.specs.Lines.{verdictName, refusalLine, imageLine, blockLine, totalLine};
 use super::Tally;
-use super::texts::put_line;
-use super::texts::put_named;
-use super::texts::put_text;
 use block::Verdict;
+use text::put_named;
+use text::put_text;
 
 pub fn refusal_line(number: u32, out: &mut [u8], at: usize) -> usize
     ensures { λ r. ⌜ page (now (out .exit)) r ≡ written (refusalLine number) (page (now (out .entry)) at) ⌝ }
@@ -18,7 +16,7 @@ pub fn refusal_line(number: u32, out: &mut [u8], at: usize) -> usize
     let mut line = [0u8; 96];
     let end = put_named(b"refused ", number, &mut line, 0);
     let n = put_text(b"\n", &mut line, end);
-    put_line(&line[..n], out, at)
+    put_text(&line[..n], out, at)
 }
 
 pub fn image_line(shape: u32, s: u32, g: u32, blocks: u32, out: &mut [u8], at: usize) -> usize
@@ -30,13 +28,13 @@ pub fn image_line(shape: u32, s: u32, g: u32, blocks: u32, out: &mut [u8], at: u
     let after_g = put_named(b" groups ", g, &mut line, after_s);
     let end = put_named(b" blocks ", blocks, &mut line, after_g);
     let n = put_text(b"\n", &mut line, end);
-    put_line(&line[..n], out, at)
+    put_text(&line[..n], out, at)
 }
 
-// The verdict and its number at the end of a line.
-fn put_verdict(verdict: Verdict, line: &mut [u8; 96], at: usize) -> usize
-    requires { ⌜ (length (now line) ≡ 96) × (at + 18 ≤ 96) ⌝ }
-    ensures { λ r. ⌜ Extended (verdictText verdict) (now (line .entry)) at (now (line .exit)) r × (r ≤ at + 18) ⌝ }
+// The verdict and its number.
+fn put_verdict(verdict: Verdict, line: &mut [u8], at: usize) -> usize
+    ensures { λ r. ⌜ page (now (line .exit)) r
+        ≡ written (decimal (verdictCount verdict)) (written (ascii (verdictName verdict)) (page (now (line .entry)) at)) ⌝ }
 {
     match verdict {
         Verdict::Clean => put_named(b" clean ", 0, line, at),
@@ -52,7 +50,7 @@ pub fn block_line(block: u32, verdict: Verdict, out: &mut [u8], at: usize) -> us
     let after_block = put_named(b"block ", block, &mut line, 0);
     let end = put_verdict(verdict, &mut line, after_block);
     let n = put_text(b"\n", &mut line, end);
-    put_line(&line[..n], out, at)
+    put_text(&line[..n], out, at)
 }
 
 pub fn total_line(tally: Tally, out: &mut [u8], at: usize) -> usize
@@ -64,5 +62,5 @@ pub fn total_line(tally: Tally, out: &mut [u8], at: usize) -> usize
     let after_lost = put_named(b" lost ", tally.lost, &mut line, after_mended);
     let end = put_named(b" bits ", tally.bits, &mut line, after_lost);
     let n = put_text(b"\n", &mut line, end);
-    put_line(&line[..n], out, at)
+    put_text(&line[..n], out, at)
 }

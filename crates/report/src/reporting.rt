@@ -5,7 +5,7 @@ ghost use lib.ListN.{length};
 ghost use Rattle.store.specs.Layout.{blocks};
 ghost use Rattle.store.specs.Refusal.{layoutRefusal};
 ghost use Rattle.file.specs.Bytes.{wordCount, wordsIn};
-ghost use Rattle.report.specs.Page.{page, writtenAll};
+ghost use Rattle.text.specs.Page.{page, writtenAll};
 ghost use Rattle.report.specs.Lines.{counted};
 ghost use Rattle.report.specs.Report.{visitedBelow, imageReport, Reports};
 ghost use Rattle.report.specs.Inner.{verdictIn, Countable};

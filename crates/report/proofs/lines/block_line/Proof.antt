@@ -1,29 +1,56 @@
 -- `report::lines::block_line` meets its contract: the line put together is the one that is written. Assumes nothing.
-use Prim.Native.Nat.{ℕ}
-use mathlib.Core.Path.{sym, ap, _∙_}
-use mathlib.Core.List.{List}
+use Prim.Native.Nat.{_≤_}
+use native.Mathlib.Omega.{arith}
 use borrow.Author.Needs.{needs}
-use lib.ListN.{replicate}
-use lib.Seq.{length-take-le}
-use Rattle.report.specs.Inner.{Extended}
-use Rattle.report.specs.Page.{page, written}
-use Rattle.report.specs.Lines.{blockLine}
-use Rattle.report.proofs.Pages.{extended-more}
+use lib.ListN.{length, replicate}
+use Rattle.text.specs.Text.{ascii, lineEnd}
+use Rattle.text.proofs.Lines.{Line, empty, with-text, with-named, at-most, line-count, line-written}
+use Rattle.block.specs.declared.Verdict.{Verdict}
+use Rattle.block.specs.declared.Verdict.the-variants.{Clean, Mended, Lost}
+use Rattle.block.specs.Verdict.{verdictCount}
+use Rattle.report.specs.Lines.{verdictName, blockLine}
+use Rattle.report.proofs.Counts.{count-fits}
 use Rattle.report.proofs.lines.block_line.Statement.{statement}
 use Rattle.report.proofs.lines.block_line.Tie as tie
 
--- the line as it was put together
-whole : (c : tie.After-put-text)
-    → Extended (blockLine (c .before .before .before .before .before .before .before .before .before .args .block) (c .before .before .before .before .before .before .before .before .before .args .verdict)) (replicate 96 0) 0 (c .put-text .last .1 .0) (c .put-text .result)
-unfolding blockLine
-whole c =
-    extended-more (extended-more (c .before .before .before .before .before .put-named .ensures .0) (c .before .before .before .put-verdict .ensures .0)) (c .put-text .ensures)
+name-short : (v : Verdict) → length (ascii (verdictName v)) ≤ 8
+name-short Clean = omega arith
+name-short (Mended m) = omega arith
+name-short (Lost m) = omega arith
+
+-- the points of the walk, by the places in the line
+module _ (c : tie.After-put-text) where
+  abbrev end : tie.After-put-verdict
+  end = c .before .before .before .before
+
+  abbrev after-block : tie.After-put-named
+  after-block = end .before .before .before
+
+  abbrev start : tie.Start
+  start = after-block .before .before .before .before
+
+  -- the line as it is put together
+  whole : Line 96 35 (blockLine (start .args .block) (start .args .verdict)) (c .put-text .last .1 .0) (c .put-text .result)
+  unfolding blockLine
+  whole =
+      let v = start .args .verdict in
+      let fits = count-fits v _ (start .good .1 .0) in
+      let short = name-short v in
+      let block = with-named (empty (replicate 96 0)) "block " (start .args .block) (after-block .put-named .ensures) (start .fits .block) (omega arith) in
+      let verdict = with-named block (verdictName v) (verdictCount v) (end .put-verdict .ensures) fits (omega arith) in
+      at-most (with-text verdict lineEnd (c .put-text .ensures) (omega arith)) 35 (omega arith)
 
 slice-aggregate-put-named : tie.Need-slice-aggregate-put-named
 slice-aggregate-put-named c = search needs
 
+slice-aggregate-put-named-2 : tie.Need-slice-aggregate-put-named-2
+slice-aggregate-put-named-2 c = search needs
+
 put-named-requires : tie.Need-put-named-requires
 put-named-requires c κs = search needs
+
+slice-aggregate-put-verdict : tie.Need-slice-aggregate-put-verdict
+slice-aggregate-put-verdict c = search needs
 
 put-verdict-requires : tie.Need-put-verdict-requires
 put-verdict-requires c κs = search needs
@@ -31,38 +58,43 @@ put-verdict-requires c κs = search needs
 slice-aggregate-put-text : tie.Need-slice-aggregate-put-text
 slice-aggregate-put-text c = search needs
 
+slice-aggregate-put-text-2 : tie.Need-slice-aggregate-put-text-2
+slice-aggregate-put-text-2 c = search needs
+
 put-text-requires : tie.Need-put-text-requires
 put-text-requires c κs = search needs
 
 array-share-prefix-line : tie.Need-array-share-prefix-line
-array-share-prefix-line c = search needs
+array-share-prefix-line c = whole (c .before) .inside
 
-slice-aggregate-put-line : tie.Need-slice-aggregate-put-line
-slice-aggregate-put-line c = sym (length-take-le (c .before .put-text .result) (c .before .put-text .last .1 .0) (array-share-prefix-line (c .before)))
+slice-aggregate-put-text-3 : tie.Need-slice-aggregate-put-text-3
+slice-aggregate-put-text-3 c = line-count (whole (c .before .before))
 
-put-line-requires : tie.Need-put-line-requires
-put-line-requires c κs = search needs
+put-text-requires-2 : tie.Need-put-text-requires-2
+put-text-requires-2 c κs = search needs
 
 same-length : tie.Need-same-length
 same-length c = search needs
 
 returns : tie.Need-returns
 returns c =
-    let start = c .before .before .before .before .before .before .before .before .before .before .before .before .before .before in
-    c .before .before .put-line .ensures
-    ∙ ap (λ (text : List ℕ). written text (page (start .args .out .now) (start .args .at))) (whole (c .before .before .before .before .before) .front)
+    let printed = c .before .before in
+    line-written (whole (printed .before .before .before .before)) _ (printed .put-text2 .ensures)
 
 pub block-line-spec : {M : Type 1} → statement M
 block-line-spec =
     tie.close
     (tie.spec
     slice-aggregate-put-named
+    slice-aggregate-put-named-2
     put-named-requires
+    slice-aggregate-put-verdict
     put-verdict-requires
     slice-aggregate-put-text
+    slice-aggregate-put-text-2
     put-text-requires
     array-share-prefix-line
-    slice-aggregate-put-line
-    put-line-requires
+    slice-aggregate-put-text-3
+    put-text-requires-2
     same-length
     returns)

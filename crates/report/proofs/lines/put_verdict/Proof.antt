@@ -1,5 +1,4 @@
 -- `report::lines::put_verdict` meets its contract: each verdict has its text. Assumes nothing.
-use native.Mathlib.Omega.{arith}
 use borrow.Author.Needs.{needs}
 use Rattle.report.proofs.lines.put_verdict.Statement.{statement}
 use Rattle.report.proofs.lines.put_verdict.Tie as tie
@@ -31,14 +30,29 @@ slice-aggregate-put-named-3 c = search needs
 put-named-requires-3 : tie.Need-put-named-requires-3
 put-named-requires-3 c κs = search needs
 
+same-length : tie.Need-same-length
+same-length c = search needs
+
 returns : tie.Need-returns
-returns c = (rw (c .before .before .before .enum-told .given .1) (c .put-named .ensures .0), omega (arith, c .put-named .ensures .1))
+returns c =
+    let put = c .before .before in
+    rw (put .before .before .before .enum-told .given .1) (put .put-named .ensures)
+
+same-length-2 : tie.Need-same-length-2
+same-length-2 c = search needs
 
 returns-2 : tie.Need-returns-2
-returns-2 c = (rw (c .before .before .before .before .verdict .given .1) (c .put-named2 .ensures .0), omega (arith, c .put-named2 .ensures .1))
+returns-2 c =
+    let put = c .before .before in
+    rw (put .before .before .before .before .verdict .given .1) (put .put-named2 .ensures)
+
+same-length-3 : tie.Need-same-length-3
+same-length-3 c = search needs
 
 returns-3 : tie.Need-returns-3
-returns-3 c = (rw (c .before .before .before .before .verdict2 .given .1) (c .put-named3 .ensures .0), omega (arith, c .put-named3 .ensures .1))
+returns-3 c =
+    let put = c .before .before in
+    rw (put .before .before .before .before .verdict2 .given .1) (put .put-named3 .ensures)
 
 pub put-verdict-spec : {M : Type 1} → statement M
 put-verdict-spec =
@@ -53,6 +67,9 @@ put-verdict-spec =
     enum-known-verdict-2
     slice-aggregate-put-named-3
     put-named-requires-3
+    same-length
     returns
+    same-length-2
     returns-2
+    same-length-3
     returns-3)

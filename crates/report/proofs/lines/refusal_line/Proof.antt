@@ -1,26 +1,33 @@
 -- `report::lines::refusal_line` meets its contract: the line put together is the one that is written. Assumes nothing.
-use Prim.Native.Nat.{ℕ}
-use mathlib.Core.Path.{sym, ap, _∙_}
-use mathlib.Core.List.{List}
+use native.Mathlib.Omega.{arith}
 use borrow.Author.Needs.{needs}
 use lib.ListN.{replicate}
-use lib.Seq.{length-take-le}
-use Rattle.report.specs.Inner.{Extended}
-use Rattle.report.specs.Page.{page, written}
+use Rattle.text.specs.Text.{lineEnd}
+use Rattle.text.proofs.Lines.{Line, empty, with-text, with-named, line-count, line-written}
 use Rattle.report.specs.Lines.{refusalLine}
-use Rattle.report.proofs.Pages.{extended-more}
 use Rattle.report.proofs.lines.refusal_line.Statement.{statement}
 use Rattle.report.proofs.lines.refusal_line.Tie as tie
 
--- the line as it was put together
-whole : (c : tie.After-put-text)
-    → Extended (refusalLine (c .before .before .before .before .before .before .before .args .number)) (replicate 96 0) 0 (c .put-text .last .1 .0) (c .put-text .result)
-unfolding refusalLine
-whole c =
-    extended-more (c .before .before .before .put-named .ensures .0) (c .put-text .ensures)
+-- the points of the walk, by the places in the line
+module _ (c : tie.After-put-text) where
+  abbrev end : tie.After-put-named
+  end = c .before .before .before .before
+
+  abbrev start : tie.Start
+  start = end .before .before .before .before
+
+  -- the line as it is put together
+  whole : Line 96 19 (refusalLine (start .args .number)) (c .put-text .last .1 .0) (c .put-text .result)
+  unfolding refusalLine
+  whole =
+      let number = with-named (empty (replicate 96 0)) "refused " (start .args .number) (end .put-named .ensures) (start .fits .number) (omega arith) in
+      with-text number lineEnd (c .put-text .ensures) (omega arith)
 
 slice-aggregate-put-named : tie.Need-slice-aggregate-put-named
 slice-aggregate-put-named c = search needs
+
+slice-aggregate-put-named-2 : tie.Need-slice-aggregate-put-named-2
+slice-aggregate-put-named-2 c = search needs
 
 put-named-requires : tie.Need-put-named-requires
 put-named-requires c κs = search needs
@@ -28,37 +35,41 @@ put-named-requires c κs = search needs
 slice-aggregate-put-text : tie.Need-slice-aggregate-put-text
 slice-aggregate-put-text c = search needs
 
+slice-aggregate-put-text-2 : tie.Need-slice-aggregate-put-text-2
+slice-aggregate-put-text-2 c = search needs
+
 put-text-requires : tie.Need-put-text-requires
 put-text-requires c κs = search needs
 
 array-share-prefix-line : tie.Need-array-share-prefix-line
-array-share-prefix-line c = search needs
+array-share-prefix-line c = whole (c .before) .inside
 
-slice-aggregate-put-line : tie.Need-slice-aggregate-put-line
-slice-aggregate-put-line c = sym (length-take-le (c .before .put-text .result) (c .before .put-text .last .1 .0) (array-share-prefix-line (c .before)))
+slice-aggregate-put-text-3 : tie.Need-slice-aggregate-put-text-3
+slice-aggregate-put-text-3 c = line-count (whole (c .before .before))
 
-put-line-requires : tie.Need-put-line-requires
-put-line-requires c κs = search needs
+put-text-requires-2 : tie.Need-put-text-requires-2
+put-text-requires-2 c κs = search needs
 
 same-length : tie.Need-same-length
 same-length c = search needs
 
 returns : tie.Need-returns
 returns c =
-    let start = c .before .before .before .before .before .before .before .before .before .before .before .before in
-    c .before .before .put-line .ensures
-    ∙ ap (λ (text : List ℕ). written text (page (start .args .out .now) (start .args .at))) (whole (c .before .before .before .before .before) .front)
+    let printed = c .before .before in
+    line-written (whole (printed .before .before .before .before)) _ (printed .put-text2 .ensures)
 
 pub refusal-line-spec : {M : Type 1} → statement M
 refusal-line-spec =
     tie.close
     (tie.spec
     slice-aggregate-put-named
+    slice-aggregate-put-named-2
     put-named-requires
     slice-aggregate-put-text
+    slice-aggregate-put-text-2
     put-text-requires
     array-share-prefix-line
-    slice-aggregate-put-line
-    put-line-requires
+    slice-aggregate-put-text-3
+    put-text-requires-2
     same-length
     returns)

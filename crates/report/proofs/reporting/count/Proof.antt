@@ -8,6 +8,13 @@ use Rattle.report.specs.Lines.{counted}
 use Rattle.report.proofs.reporting.count.Statement.{statement}
 use Rattle.report.proofs.reporting.count.Tie as tie
 
+-- the bits mended are told, and the entry before that
+abbrev told : tie.After-struct-known3 → tie.After-verdict
+told c = c .before .before .before
+
+abbrev start : tie.After-verdict → tie.Start
+start c = c .before .before
+
 enum-told : tie.Need-enum-told
 enum-told c = search needs
 
@@ -21,7 +28,9 @@ add-more-2 : tie.Need-add-more-2
 add-more-2 c = search needs
 
 add-more-3 : tie.Need-add-more-3
-add-more-3 c = omega (arith, ap verdictCount (c .before .before .before .verdict .given .1), c .before .before .before .before .before .pre .small, c .before .before .before .before .before .pre .bitsFew)
+add-more-3 c =
+    let pre = start (told c) .pre in
+    omega (arith, ap verdictCount (told c .verdict .given .1), pre .small, pre .bitsFew)
 
 enum-told-2 : tie.Need-enum-told-2
 enum-told-2 c = search needs
@@ -33,7 +42,7 @@ returns : tie.Need-returns
 returns c = ap (λ (v : Verdict). counted v (c .before .before .before .args .tally)) (sym (c .before .enum-told .given .1))
 
 returns-2 : tie.Need-returns-2
-returns-2 c = ap (λ (v : Verdict). counted v (c .before .before .before .before .before .args .tally)) (sym (c .before .before .before .verdict .given .1))
+returns-2 c = ap (λ (v : Verdict). counted v (start (told c) .args .tally)) (sym (told c .verdict .given .1))
 
 returns-3 : tie.Need-returns-3
 returns-3 c = ap (λ (v : Verdict). counted v (c .before .before .before .args .tally)) (sym (c .before .enum-told2 .given .1))

@@ -13,11 +13,23 @@ use Rattle.report.proofs.Reported.{report-refused, report-no-room, repo
 use Rattle.report.proofs.reporting.inspect.Statement.{statement}
 use Rattle.report.proofs.reporting.inspect.Tie as tie
 
+-- ---- the points of the walk
+
+abbrev start : tie.After-read-header → tie.Start
+start c = c .before .before .before .before
+
+abbrev header-read : tie.After-word-count → tie.After-read-header
+header-read c = c .before .before .before .before
+
+abbrev room-seen : tie.After-report-words-arg2 → tie.Else1
+room-seen c = c .before .before
+
 -- the header names a layout
-header : (c : tie.After-word-count)
-    → headerOf (c .before .before .before .before .before .before .before .before .args .bytes .now)
-    ≡ Image (c .before .before .shape .given .0 .0) (c .before .before .shape .given .0 .1 .0) (c .before .before .shape .given .0 .1 .1 .0)
-header c = sym (c .before .before .before .before .read-header .ensures) ∙ c .before .before .shape .given .1
+header : (c : tie.After-word-count) → let layout = c .before .before .shape .given .0 in
+    headerOf (start (header-read c) .args .bytes .now) ≡ Image (layout .0) (layout .1 .0) (layout .1 .1 .0)
+header c = sym (header-read c .read-header .ensures) ∙ c .before .before .shape .given .1
+
+-- ---- the needs
 
 read-header-requires : tie.Need-read-header-requires
 read-header-requires c κs = search needs
@@ -41,14 +53,16 @@ slice-relend-prefix-report-words : tie.Need-slice-relend-prefix-report-words
 slice-relend-prefix-report-words c = search needs
 
 slice-aggregate-report-words : tie.Need-slice-aggregate-report-words
-slice-aggregate-report-words c = sym (length-take-le (c .before .before .word-count .result) (c .before .before .before .before .before .before .before .before .before .before .args .image .now) (c .before .if1 .left))
+slice-aggregate-report-words c =
+    let counted = c .before .before in
+    sym (length-take-le (counted .word-count .result) (start (header-read counted) .args .image .now) (c .before .if1 .left))
 
 report-words-requires : tie.Need-report-words-requires
 report-words-requires c κs =
-    let start = c .before .before .before .before .before .before .before .before .before .before .before in
-    let counted = c .before .before .before in (
-      length-take-le (counted .word-count .result) (start .args .image .now) (c .before .before .if1 .left) ∙ counted .word-count .ensures,
-      words-layout (start .args .bytes .now) _ _ _ (header counted),
+    let counted = room-seen c .before in
+    let a = start (header-read counted) .args in (
+      length-take-le (counted .word-count .result) (a .image .now) (room-seen c .if1 .left) ∙ counted .word-count .ensures,
+      words-layout (a .bytes .now) _ _ _ (header counted),
     )
 
 same-length : tie.Need-same-length
@@ -56,7 +70,9 @@ same-length c = search needs
 
 returns-2 : tie.Need-returns-2
 returns-2 c =
-    report-refused _ _ _ _ _ _ (sym (c .before .before .before .before .before .before .before .read-header .ensures) ∙ c .before .before .before .before .before .number .given .1) (c .before .before .refusal-line .ensures)
+    let printed = c .before .before in
+    let known = printed .before .before .before in
+    report-refused _ _ _ _ _ _ (sym (known .before .before .read-header .ensures) ∙ known .number .given .1) (printed .refusal-line .ensures)
 
 same-length-2 : tie.Need-same-length-2
 same-length-2 c = search needs
@@ -66,13 +82,14 @@ same-length-3 c = search needs
 
 returns-3 : tie.Need-returns-3
 returns-3 c =
-    let a = c .before .before .before .before .before .before .before .before .before .before .before .before .before .before .before .before .args in
-    let counted = c .before .before .before .before .before .before .before .before in
-    let reported = c .before .before .before .before .report-words .ensures in
-    report-visited (a .bytes .now) (a .image .now) (a .out .now) _ _ _ _ _ (header counted) _
-    (omega (arith, counted .word-count .ensures, c .before .before .before .before .before .before .before .if1 .left))
-    (reported .0)
-    (ap₂ (λ (words : List ℕ) (n : ℕ). words ++ drop n (a .image .now)) (reported .1) (counted .word-count .ensures))
+    let reported = c .before .before .before .before in
+    let room = room-seen (reported .before) in
+    let count = room .before .word-count .ensures in
+    let a = start (header-read (room .before)) .args in
+    report-visited (a .bytes .now) (a .image .now) (a .out .now) _ _ _ _ _ (header (room .before)) _
+    (omega (arith, count, room .if1 .left))
+    (reported .report-words .ensures .0)
+    (ap₂ (λ (words : List ℕ) (n : ℕ). words ++ drop n (a .image .now)) (reported .report-words .ensures .1) count)
 
 pub inspect-spec : {M : Type 1} → statement M
 inspect-spec =

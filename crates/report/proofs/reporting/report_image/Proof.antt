@@ -1,19 +1,23 @@
 -- `report::reporting::report_image` meets its contract. The loop's invariant: the blocks below k are visited, their lines written and counted. Assumes nothing.
-use Prim.Native.Nat.{ℕ, _≤_, _-_}
+use Prim.Native.Nat.{ℕ, _≤_, _<_, _-_}
 use mathlib.Core.Path.{_≡_, refl, sym, ap, ap₂, _∙_}
 use mathlib.Core.List.{List}
 use native.Mathlib.Omega.{arith}
 use native.Mathlib.Numerals.{add-one}
 use borrow.Author.Needs.{needs}
 use lib.ListN.{length}
+use Rattle.block.specs.declared.Verdict.{Verdict}
+use Rattle.block.specs.Verdict.{verdictCount}
+use Rattle.store.specs.declared.Answer.{Answer}
 use Rattle.store.specs.Layout.{blocks}
 use Rattle.store.specs.Visit.{visitAnswer, visitAfter}
+use Rattle.report.specs.declared.Tally.{Tally}
 use Rattle.report.specs.Inner.{verdictIn}
 use Rattle.report.specs.Lines.{blockLine, totalLine, counted}
 use Rattle.report.specs.Report.{verdictAt, imageReport, visitedBelow, blockLines, tallyBelow}
-use Rattle.report.specs.Page.{written, page, writtenAll}
-use Rattle.report.proofs.Counts.{verdict-most, tally-within}
-use Rattle.report.proofs.Pages.{written-last}
+use Rattle.text.specs.Page.{written, page, writtenAll}
+use Rattle.report.proofs.Counts.{Within, verdict-most, tally-within}
+use Rattle.text.proofs.Pages.{written-last}
 use Rattle.report.proofs.Visited.{visit-finds, layout-geometry}
 use Rattle.report.proofs.reporting.report_image.Statement.{statement}
 use Rattle.report.proofs.reporting.report_image.Tie as tie
@@ -30,20 +34,69 @@ Inv-loop image₀ shape s g out₀ n at₀ tally₀ k₀ image out at tally k =
 abbrev μ-loop : tie.MeasureT-loop
 μ-loop image₀ shape s g out₀ n at₀ tally₀ k₀ image out at tally k = n - k
 
+-- ---- the points of the walk
+
+abbrev start : tie.At-loop Inv-loop μ-loop → tie.Start Inv-loop μ-loop
+start c = c .before .before .before .before .before .before .before
+
+abbrev turn : tie.After-verdict-in Inv-loop μ-loop → tie.In-loop Inv-loop μ-loop
+turn c = c .before .before .before .before .before
+
+abbrev judged : tie.After-slice-known5 Inv-loop μ-loop → tie.After-verdict-in Inv-loop μ-loop
+judged c = c .before .before .before .before
+
+abbrev ended : tie.After-slice-known6 Inv-loop μ-loop → tie.After-loop Inv-loop μ-loop
+ended c = c .before .before .before .before
+
+-- ---- what is to be found, left, printed and counted, block by block
+
+module _ (c : tie.Start Inv-loop μ-loop) where
+  abbrev answers : List ℕ → ℕ → Answer
+  answers image k = visitAnswer image (c .args .shape) (c .args .s) (c .args .g) k
+
+  abbrev leaves : List ℕ → ℕ → List ℕ
+  leaves image k = visitAfter image (c .args .shape) (c .args .s) (c .args .g) k
+
+  abbrev verdicts : ℕ → Verdict
+  verdicts = verdictAt (c .args .image .now) (c .args .shape) (c .args .s) (c .args .g)
+
+  abbrev images : ℕ → List ℕ
+  images = visitedBelow (c .args .image .now) (c .args .shape) (c .args .s) (c .args .g)
+
+  abbrev lines : ℕ → List (List ℕ)
+  lines = blockLines (c .args .image .now) (c .args .shape) (c .args .s) (c .args .g)
+
+  abbrev tallies : ℕ → Tally
+  tallies = tallyBelow (c .args .image .now) (c .args .shape) (c .args .s) (c .args .g)
+
+  abbrev many : ℕ
+  many = blocks (c .args .s) (c .args .g)
+
+  few : many ≤ 4096
+  few = layout-geometry _ _ _ _ (c .pre) .n-last
+
+  finds : (k : ℕ) → k < many → verdictIn (answers (images k) k) ≡ verdicts k
+  finds = visit-finds (c .args .image .now) (c .args .shape) (c .args .s) (c .args .g) (c .pre)
+
+  small : (k : ℕ) → verdictCount (verdicts k) ≤ 32
+  small = verdict-most (c .args .image .now) (c .args .shape) (c .args .s) (c .args .g)
+
+  within : (k : ℕ) → Within k (tallies k)
+  within = tally-within (c .args .image .now) (c .args .shape) (c .args .s) (c .args .g)
+
 -- the verdict of a turn is that of its block
-found : (c : tie.After-verdict-in Inv-loop μ-loop)
-    → c .verdict-in .result
-    ≡ verdictAt (c .before .before .before .before .before .before .before .before .before .before .before .before .before .args .image .now) (c .before .before .before .before .before .before .before .before .before .before .before .before .before .args .shape) (c .before .before .before .before .before .before .before .before .before .before .before .before .before .args .s) (c .before .before .before .before .before .before .before .before .before .before .before .before .before .args .g) (c .before .before .before .before .before .before .loop .k)
+found : (c : tie.After-verdict-in Inv-loop μ-loop) → c .verdict-in .result ≡ verdicts (start (turn c .before)) (turn c .before .loop .k)
 found c =
-    let a = c .before .before .before .before .before .before .before .before .before .before .before .before .before .args in
-    let loop = c .before .before .before .before .before .before .loop in
+    let at = turn c .before in
+    let k = at .loop .k in
     c .verdict-in .ensures
-    ∙ ap verdictIn (c .before .before .before .visit .ensures .answers)
-    ∙ ap (λ (image : List ℕ). verdictIn (visitAnswer image (a .shape) (a .s) (a .g) (loop .k))) (loop .inv .1)
-    ∙ visit-finds (a .image .now) (a .shape) (a .s) (a .g) (c .before .before .before .before .before .before .before .before .before .before .before .before .before .pre) (loop .k) (c .before .before .before .before .before .loop-test .taken)
+    ∙ ap verdictIn (c .before .before .before .visit .ensures .answers ∙ ap (λ (image : List ℕ). answers (start at) image k) (at .loop .inv .1))
+    ∙ finds (start at) k (turn c .loop-test .taken)
+
+-- ---- the needs
 
 mul-n : tie.Need-mul-n Inv-loop μ-loop
-mul-n c = omega (arith, layout-geometry _ _ _ _ (c .before .before .pre) .n-last)
+mul-n c = omega (arith, few (c .before .before))
 
 image-line-requires : tie.Need-image-line-requires Inv-loop μ-loop
 image-line-requires c κs = search needs
@@ -63,63 +116,68 @@ block-line-requires c κs = search needs
 
 count-requires : tie.Need-count-requires Inv-loop μ-loop
 count-requires c κs =
-    let start = c .before .before .before .before .before .before .before .before .before .before .before .before .before .before .before .before .before in
-    let loop = c .before .before .before .before .before .before .before .before .before .before .loop in
-    let few = layout-geometry _ _ _ _ (start .pre) .n-last in
-    let below = c .before .before .before .before .before .before .before .before .before .loop-test .taken in
-    let within = tally-within (start .args .image .now) (start .args .shape) (start .args .s) (start .args .g) (loop .k) in
+    let at = turn (judged c) .before in
+    let below = turn (judged c) .loop-test .taken in
+    let most = few (start at) in
+    let tally = within (start at) (at .loop .k) in
     record {
-      small = rw (found (c .before .before .before .before)) (verdict-most (start .args .image .now) (start .args .shape) (start .args .s) (start .args .g) (loop .k));
-      cleanFew = rw (loop .inv .3) (omega (arith, within .clean, few, below));
-      mendedFew = rw (loop .inv .3) (omega (arith, within .mended, few, below));
-      lostFew = rw (loop .inv .3) (omega (arith, within .lost, few, below));
-      bitsFew = rw (loop .inv .3) (omega (arith, within .bits, few, below));
+      small = rw (found (judged c)) (small (start at) (at .loop .k));
+      cleanFew = rw (at .loop .inv .3) (omega (arith, tally .clean));
+      mendedFew = rw (at .loop .inv .3) (omega (arith, tally .mended));
+      lostFew = rw (at .loop .inv .3) (omega (arith, tally .lost));
+      bitsFew = rw (at .loop .inv .3) (omega (arith, tally .bits));
     }
 
 add-k : tie.Need-add-k Inv-loop μ-loop
-add-k c = omega (arith, layout-geometry _ _ _ _ (c .before .before .before .before .before .before .before .before .before .before .before .before .before .before .before .before .before .before .pre) .n-last, c .before .before .before .before .before .before .before .before .before .before .loop-test .taken)
+add-k c =
+    let in-turn = turn (judged (c .before)) in
+    omega (arith, few (start (in-turn .before)), in-turn .loop-test .taken)
 
 loop-less : tie.Need-loop-less Inv-loop μ-loop
-loop-less c = omega (arith, c .before .before .before .before .before .before .before .before .before .before .loop-test .taken)
+loop-less c = omega (arith, turn (judged (c .before)) .loop-test .taken)
 
 loop-again : tie.Need-loop-again Inv-loop μ-loop
 unfolding visitedBelow blockLines tallyBelow
 loop-again c =
-    let a = c .before .before .before .before .before .before .before .before .before .before .before .before .before .before .before .before .before .before .args in
-    let loop = c .before .before .before .before .before .before .before .before .before .before .before .loop in
-    let verdict = found (c .before .before .before .before .before) in
+    let found-at = judged (c .before) in
+    let at = turn found-at .before in
+    let k = at .loop .k in
+    let visit = found-at .before .before .before .visit in
+    let line = c .before .before .before .block-line in
+    let verdict = found found-at in
     rw add-one (
-      omega (arith, c .before .before .before .before .before .before .before .before .before .before .loop-test .taken),
-      c .before .before .before .before .before .before .before .before .visit .ensures .leaves ∙ ap (λ (image : List ℕ). visitAfter image (a .shape) (a .s) (a .g) (loop .k)) (loop .inv .1),
-      c .before .before .before .block-line .ensures
-          ∙ ap₂ written (ap (blockLine (loop .k)) verdict) (loop .inv .2)
-          ∙ sym (written-last (blockLines (a .image .now) (a .shape) (a .s) (a .g) (loop .k)) (blockLine (loop .k) (verdictAt (a .image .now) (a .shape) (a .s) (a .g) (loop .k))) _),
-      c .count .ensures ∙ ap₂ counted verdict (loop .inv .3),
-      c .before .before .before .before .before .before .before .before .visit .kept .0 ∙ loop .inv .4,
-      c .before .before .before .block-line .kept .1 .1 .0 ∙ loop .inv .5,
+      omega (arith, turn found-at .loop-test .taken),
+      visit .ensures .leaves ∙ ap (λ (image : List ℕ). leaves (start at) image k) (at .loop .inv .1),
+      line .ensures
+          ∙ ap₂ written (ap (blockLine k) verdict) (at .loop .inv .2)
+          ∙ sym (written-last (lines (start at) k) (blockLine k (verdicts (start at) k)) _),
+      c .count .ensures ∙ ap₂ counted verdict (at .loop .inv .3),
+      visit .kept .0 ∙ at .loop .inv .4,
+      line .kept .1 .1 .0 ∙ at .loop .inv .5,
     )
 
 total-line-requires : tie.Need-total-line-requires Inv-loop μ-loop
 total-line-requires c κs = search needs
 
 same-length : tie.Need-same-length Inv-loop μ-loop
-same-length c = c .before .before .before .before .before .loop .inv .4
+same-length c = ended c .before .loop .inv .4
 
 same-length-2 : tie.Need-same-length-2 Inv-loop μ-loop
-same-length-2 c = c .before .before .total-line .kept .1 .0 ∙ c .before .before .before .before .before .loop .inv .5 ∙ c .before .before .before .before .before .before .before .before .image-line .kept .1 .1 .1 .1 .0
+same-length-2 c =
+    let at = ended c .before in
+    c .before .before .total-line .kept .1 .0 ∙ at .loop .inv .5 ∙ at .before .before .before .image-line .kept .1 .1 .1 .1 .0
 
 returns : tie.Need-returns Inv-loop μ-loop
 unfolding imageReport writtenAll
 returns c =
-    let a = c .before .before .before .before .before .before .before .before .before .before .before .before .args in
-    let loop = c .before .before .before .before .before .loop in
-    let all : loop .k ≡ blocks (a .s) (a .g) = omega (arith, c .before .before .before .before .loop-test .left) in (
+    let at = ended c .before in
+    let s = start at in
+    let all : at .loop .k ≡ many s = omega (arith, ended c .loop-test .left) in (
       c .before .before .total-line .ensures
-          ∙ ap₂ written (ap totalLine (loop .inv .3 ∙ ap (tallyBelow (a .image .now) (a .shape) (a .s) (a .g)) all))
-          (loop .inv .2
-          ∙ ap₂ writtenAll (ap (blockLines (a .image .now) (a .shape) (a .s) (a .g)) all) (c .before .before .before .before .before .before .before .before .image-line .ensures))
-          ∙ sym (written-last (blockLines (a .image .now) (a .shape) (a .s) (a .g) (blocks (a .s) (a .g))) (totalLine (tallyBelow (a .image .now) (a .shape) (a .s) (a .g) (blocks (a .s) (a .g)))) _),
-      loop .inv .1 ∙ ap (visitedBelow (a .image .now) (a .shape) (a .s) (a .g)) all,
+          ∙ ap₂ written (ap totalLine (at .loop .inv .3 ∙ ap (tallies s) all))
+          (at .loop .inv .2 ∙ ap₂ writtenAll (ap (lines s) all) (at .before .before .before .image-line .ensures))
+          ∙ sym (written-last (lines s (many s)) (totalLine (tallies s (many s))) _),
+      at .loop .inv .1 ∙ ap (images s) all,
     )
 
 pub report-image-spec : {M : Type 1} → statement M

@@ -6,19 +6,23 @@ use borrow.Author.Needs.{needs}
 use Rattle.store.specs.Layout.{blocks}
 use Rattle.store.specs.Refusal.{layoutRefusal}
 use Rattle.file.proofs.Layouts.{words-fill}
-use Rattle.report.specs.Page.{page, writtenAll}
+use Rattle.text.specs.Page.{page, writtenAll}
 use Rattle.report.specs.Report.{visitedBelow, imageReport}
 use Rattle.report.proofs.reporting.report_words.Statement.{statement}
 use Rattle.report.proofs.reporting.report_words.Tie as tie
+
+-- the entry, from where the words are read
+abbrev start : tie.After-read-words → tie.Start
+start c = c .before .before .before .before .before
 
 read-words-requires : tie.Need-read-words-requires
 read-words-requires c κs = search needs
 
 report-image-requires : tie.Need-report-image-requires
 report-image-requires c κs =
-    let start = c .before .before .before .before .before .before .before .before .before in
-    ap (λ (len : ℕ). layoutRefusal len (start .args .shape) (start .args .s) (start .args .g)) (c .before .before .before .before .read-words .kept .1 .0 ∙ start .pre .0)
-    ∙ start .pre .1
+    let read = c .before .before .before .before in
+    let a = start read .args in
+    ap (λ (len : ℕ). layoutRefusal len (a .shape) (a .s) (a .g)) (read .read-words .kept .1 .0 ∙ start read .pre .0) ∙ start read .pre .1
 
 same-length : tie.Need-same-length
 same-length c = search needs
@@ -28,12 +32,14 @@ same-length-2 c = search needs
 
 returns : tie.Need-returns
 returns c =
-    let start = c .before .before .before .before .before .before .before .before .before .before .before .before .before .before in
-    let a = start .args in
-    let read = c .before .before .before .before .before .before .before .before .before .read-words .ensures ∙ words-fill (a .bytes .now) (a .image .now) (start .pre .0) in
-    let reported = c .before .before .before .before .report-image .ensures in (
-      reported .0 ∙ ap (λ (words : List ℕ). writtenAll (imageReport words (a .shape) (a .s) (a .g)) (page (a .out .now) 0)) read,
-      reported .1 ∙ ap (λ (words : List ℕ). visitedBelow words (a .shape) (a .s) (a .g) (blocks (a .s) (a .g))) read,
+    let reported = c .before .before .before .before in
+    let read = reported .before .before .before .before .before in
+    let a = start read .args in
+    let words = read .read-words .ensures ∙ words-fill (a .bytes .now) (a .image .now) (start read .pre .0) in (
+      reported .report-image .ensures .0
+          ∙ ap (λ (image : List ℕ). writtenAll (imageReport image (a .shape) (a .s) (a .g)) (page (a .out .now) 0)) words,
+      reported .report-image .ensures .1
+          ∙ ap (λ (image : List ℕ). visitedBelow image (a .shape) (a .s) (a .g) (blocks (a .s) (a .g))) words,
     )
 
 pub report-words-spec : {M : Type 1} → statement M

@@ -23,3 +23,10 @@ spelled (suc steps) n = cond (ltb n 10) (digit n ∷ []) (spelled steps (n / 10)
 -- n takes no more than n steps
 unfoldable pub decimal : ℕ → List ℕ
 decimal n = spelled n n
+
+-- a text, and a number after it
+abbrev pub named : String → ℕ → List ℕ
+named text n = ascii text ++ decimal n
+
+abbrev pub lineEnd : List ℕ
+lineEnd = ascii "\n"

@@ -1,14 +1,14 @@
--- `report::texts::put_line` meets its contract: a text that fits is copied, and any other leaves the page. Assumes nothing.
+-- `text::texts::put_text` meets its contract: a text that fits is copied, and any other leaves the page. Assumes nothing.
 use Prim.Native.Nat.{ℕ, _+_}
 use mathlib.Core.List.{List}
 use mathlib.Core.Path.{sym, ap, _∙_}
 use native.Mathlib.Omega.{arith}
 use borrow.Author.Needs.{needs}
 use lib.ListN.{length}
-use Rattle.report.specs.Page.{page}
-use Rattle.report.proofs.Pages.{written-fits, written-not}
-use Rattle.report.proofs.texts.put_line.Statement.{statement}
-use Rattle.report.proofs.texts.put_line.Tie as tie
+use Rattle.text.specs.Page.{page}
+use Rattle.text.proofs.Pages.{written-fits, written-not}
+use Rattle.text.proofs.texts.put_text.Statement.{statement}
+use Rattle.text.proofs.texts.put_text.Tie as tie
 
 returns : tie.Need-returns
 returns c = sym (written-not _ _ _ (omega arith))
@@ -34,7 +34,7 @@ returns-3 c =
     ap (λ (bytes : List ℕ). page bytes (start .args .at + length (start .args .text .now))) (c .before .before .copy-in .ensures)
     ∙ sym (written-fits (start .args .text .now) (start .args .out .now) (start .args .at) (omega arith))
 
-pub put-line-spec : {M : Type 1} → statement M
-put-line-spec =
+pub put-text-spec : {M : Type 1} → statement M
+put-text-spec =
     tie.close
     (tie.spec returns sub-if2 returns-2 copy-in-requires add-result same-length returns-3)

@@ -1,4 +1,4 @@
--- Texts on a page: a text in bytes, a line that grows, and lines one after the other. Assumes nothing.
+-- Texts on a page: a text in bytes, and texts one after the other. Assumes nothing.
 use Prim.Native.Nat.{ℕ, _+_, _≤_, _<_}
 use mathlib.Core.Path.{_≡_, refl, sym, ap, ap₂, _∙_}
 use mathlib.Core.List.{List, [], _∷_, _++_, append-assoc, append-nil}
@@ -8,8 +8,7 @@ use native.Mathlib.Omega.{arith}
 use borrow.Author.Tests.{le-leb, lt-leb}
 use lib.ListN.{length, take, drop, length-append, length-drop, take-append-drop}
 use lib.Seq.{take-at, take-length, length-take-le, paste, drop-append-add, drop-drop}
-use Rattle.report.specs.Page.{Page, page, over, written, writtenAll, joined}
-use Rattle.report.specs.Inner.{Extended}
+use Rattle.text.specs.Page.{Page, page, over, written, writtenAll, joined}
 
 -- ---- a text in bytes
 
@@ -26,26 +25,9 @@ module _ (bytes : List ℕ) (at : ℕ) (text : List ℕ) where
       length-append (take at bytes ++ text) (drop (at + length text) bytes)
       ∙ omega (arith, length-front (omega arith), length-drop (at + length text) bytes)
 
-  -- a text that was copied to a line
-  pub over-extends : at + length text ≤ length bytes → Extended text bytes at (over bytes at text) (at + length text)
-  over-extends h = record { place = refl; front = over-front (omega arith); size = length-over h }
-
   -- a copy of the whole text
   pub pasted : paste bytes at text (length text) ≡ over bytes at text
   pasted = rw take-length
-
--- ---- a line that grows
-
-pub extended-more : {first second before middle after : List ℕ} {at next end : ℕ}
-    → Extended first before at middle next
-    → Extended second middle next after end
-    → Extended (first ++ second) before at after end
-extended-more {first} {second} {before} {middle} {after} {at} {next} {end} a b =
-    record {
-      place = omega (arith, a .place, b .place, length-append first second);
-      front = b .front ∙ ap (λ (l : List ℕ). l ++ second) (a .front) ∙ append-assoc (take at before) first second;
-      size = b .size ∙ a .size;
-    }
 
 -- ---- a page
 

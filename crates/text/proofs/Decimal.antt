@@ -1,13 +1,14 @@
 -- Decimal digits: one for a number below 10, and else those of n / 10 and then n % 10. Read as digits they are the number. Assumes nothing.
 use Prim.Native.Nat.{ℕ, zero, suc, _+_, _-_, _*_, _/_, _%_, _^_, _≤_, _<_}
 use mathlib.Core.Path.{_≡_, refl, sym, ap, _∙_}
-use mathlib.Core.List.{List, [], _∷_, _++_}
+use mathlib.Core.List.{List, [], _∷_, _++_, append-assoc}
 use native.Mathlib.Decide.{decLt}
 use native.Mathlib.Nat.{pow-succ'}
 use native.Mathlib.Omega.{arith}
 use borrow.Author.Tests.{lt-ltb, le-ltb}
-use lib.ListN.{length, getD, length-append, List·getD-append}
-use Rattle.report.specs.Text.{digit, spelled, decimal}
+use lib.ListN.{length, getD, set, take, drop, length-append, List·getD-append}
+use lib.Seq.{set-split, drop-at, length-take-le}
+use Rattle.text.specs.Text.{digit, spelled, decimal}
 
 -- ---- the steps
 
@@ -78,7 +79,7 @@ length-one n h = ap length (decimal-one n h)
 pub length-more : (n : ℕ) → 10 ≤ n → length (decimal n) ≡ length (decimal (n / 10)) + 1
 length-more n h = ap length (decimal-more n h) ∙ length-append (decimal (n / 10)) (digit (n % 10) ∷ [])
 
-decimal-some : (n : ℕ) → 0 < length (decimal n)
+pub decimal-some : (n : ℕ) → 0 < length (decimal n)
 decimal-some n = elim (decLt n 10) [
   | yes l ↦ omega (arith, length-one n l)
   | no l ↦ omega (arith, length-more n (omega arith))
@@ -107,3 +108,32 @@ front-steps (suc steps) n h l e = elim (decLt n 10) [
 -- the first digit of a number above 0 is no 0
 pub decimal-front : (n : ℕ) → 1 ≤ n → getD (decimal n) 0 0 ≡ digit 0 → ⊥
 decimal-front n = front-steps n n (omega arith)
+
+-- ---- digits that are put before those that stand at the end of a list, the last digit first
+
+module _ (n rest first : ℕ) (digits : List ℕ) where
+  -- one more stands before them
+  put-front : (d : ℕ) → 0 < first → first ≤ length digits → drop (first - 1) (set digits (first - 1) d) ≡ d ∷ drop first digits
+  put-front d some h =
+      let next : suc (first - 1) ≡ first = omega arith in
+      ap (drop (first - 1)) (set-split digits (first - 1) d (omega arith))
+      ∙ drop-at (take (first - 1) digits) (d ∷ drop (suc (first - 1)) digits) (first - 1) (length-take-le (first - 1) digits (omega arith))
+      ∙ ap (λ (k : ℕ). d ∷ drop k digits) next
+
+  module _ (e : decimal n ≡ decimal rest ++ drop first digits) (some : 0 < first) (h : first ≤ length digits) where
+    -- the last of more digits, and the others are left
+    pub put-more : 10 ≤ rest → decimal n ≡ decimal (rest / 10) ++ drop (first - 1) (set digits (first - 1) (digit (rest % 10)))
+    put-more l =
+        e
+        ∙ ap (λ (ds : List ℕ). ds ++ drop first digits) (decimal-more rest l)
+        ∙ append-assoc (decimal (rest / 10)) (digit (rest % 10) ∷ []) (drop first digits)
+        ∙ ap (λ (ds : List ℕ). decimal (rest / 10) ++ ds) (sym (put-front (digit (rest % 10)) some h))
+
+    -- the only digit left, and all stand
+    pub put-only : rest < 10 → drop (first - 1) (set digits (first - 1) (digit (rest % 10))) ≡ decimal n
+    put-only l =
+        let same : rest % 10 ≡ rest = omega arith in
+        put-front (digit (rest % 10)) some h
+        ∙ ap (λ (d : ℕ). digit d ∷ drop first digits) same
+        ∙ ap (λ (ds : List ℕ). ds ++ drop first digits) (sym (decimal-one rest l))
+        ∙ sym e

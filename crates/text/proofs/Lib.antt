@@ -1,0 +1,4 @@
+pub mod Decimal
+pub mod Pages
+pub mod Lines
+pub mod OneResult
