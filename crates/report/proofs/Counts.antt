@@ -1,6 +1,5 @@
 -- The number of a verdict is at most 32, so that a tally of 4,096 blocks fits. Assumes nothing.
 use Prim.Native.Nat.{ℕ, zero, suc, _*_, _≤_}
-use mathlib.Core.Bool.{Bool, true, false}
 use mathlib.Core.Path.{_≡_, refl}
 use mathlib.Core.List.{List}
 use native.Mathlib.Omega.{arith}
@@ -10,35 +9,28 @@ use denote.Laws.{Is}
 use mir.Syntax.{w32}
 use mir.Val.{Fits, Val}
 use lib.ListN.{length}
-use Rattle.lane.specs.Bit.{pick}
 use Rattle.lane.specs.Lane.{odd}
 use Rattle.lane.specs.Decision.{decide, lost?}
 use Rattle.block.specs.declared.Shape.{Shape}
 use Rattle.block.specs.declared.Verdict.{Verdict}
 use Rattle.block.specs.declared.Verdict.the-variants.{Clean, Mended, Lost}
 use Rattle.block.specs.Shape.{before, rows}
-use Rattle.block.specs.Words.{lane, total}
+use Rattle.ground.proofs.Totals.{total-few}
+use Rattle.lane.proofs.Bits.{pick-one}
+use Rattle.block.specs.Words.{lane}
 use Rattle.block.specs.Block.{lanesLost, bitsChanged, mendedBlock}
 use Rattle.block.specs.Verdict.{verdict, verdictOf, verdictCount}
 use Rattle.block.proofs.Verdict.{the-type}
 use Rattle.block.proofs.Blocks.{none-kept, mended-kept, changed-odd}
 use Rattle.block.proofs.Judged.{rows-fit}
-use Rattle.store.specs.Shapes.{shapeOf}
+use Rattle.layout.specs.declared.Layout.{Layout}
+use Rattle.layout.specs.Layout.{shapeOf}
 use Rattle.store.proofs.Image.{length-gathered}
 use Rattle.report.specs.declared.Tally.{Tally}
 use Rattle.report.specs.Lines.{counted}
 use Rattle.report.specs.Report.{visitedBelow, verdictAt, tallyBelow}
 
 -- ---- a verdict
-
-pick-one : (b : Bool) → pick b 1 ≤ 1
-pick-one true = omega arith
-pick-one false = omega arith
-
-total-most : (n : ℕ) (f : ℕ → Bool) → total n (λ i. pick (f i) 1) ≤ n
-unfolding total
-total-most zero f = omega arith
-total-most (suc n) f = omega (arith, total-most n f, pick-one (f n))
 
 by-numbers : (most lost changed : ℕ) → lost ≤ most → (lost ≡ 0 → changed ≤ most) → verdictCount (verdict lost changed) ≤ most
 by-numbers most zero zero l c = omega arith
@@ -49,10 +41,10 @@ pub count-most : (shape : Shape) (block : List ℕ) → rows shape ≤ length bl
 unfolding verdictOf lanesLost
 count-most shape block long =
     by-numbers 32 (lanesLost shape block) (bitsChanged shape block (mendedBlock shape block))
-    (total-most 32 (λ i. lost? (decide (before shape) (lane i block))))
+    (total-few 32 _ (λ i h. pick-one (lost? (decide (before shape) (lane i block)))))
     (λ none.
     rw (mended-kept shape block none, changed-odd shape block long (none-kept shape block none))
-    (total-most 32 (λ i. odd (rows shape) (lane i block))))
+    (total-few 32 _ (λ i h. pick-one (odd (rows shape) (lane i block)))))
 
 -- a verdict in the code has a number of 32 bits
 pub count-fits : (v : Verdict) (vs : List Val) → Is (row the-type) v vs → Fits w32 (verdictCount v)
@@ -77,14 +69,14 @@ one-more n (Mended m) tally c w =
 one-more n (Lost m) tally c w =
     record { clean = omega (arith, w .clean); mended = omega (arith, w .mended); lost = omega (arith, w .lost); bits = omega (arith, w .bits) }
 
-module _ (image : List ℕ) (shape s g : ℕ) where
-  pub verdict-most : (n : ℕ) → verdictCount (verdictAt image shape s g n) ≤ 32
+module _ (image : List ℕ) (layout : Layout) where
+  pub verdict-most : (n : ℕ) → verdictCount (verdictAt image layout n) ≤ 32
   unfolding verdictAt
   verdict-most n =
-      count-most (shapeOf shape) _
-      (rw (length-gathered (shapeOf shape) s n (visitedBelow image shape s g n)) (rows-fit (shapeOf shape)))
+      count-most (shapeOf layout) _
+      (rw (length-gathered layout n (visitedBelow image layout n)) (rows-fit (shapeOf layout)))
 
-  pub tally-within : (n : ℕ) → Within n (tallyBelow image shape s g n)
+  pub tally-within : (n : ℕ) → Within n (tallyBelow image layout n)
   unfolding tallyBelow
   tally-within zero = record { clean = omega arith; mended = omega arith; lost = omega arith; bits = omega arith }
-  tally-within (suc n) = one-more n (verdictAt image shape s g n) (tallyBelow image shape s g n) (verdict-most n) (tally-within n)
+  tally-within (suc n) = one-more n (verdictAt image layout n) (tallyBelow image layout n) (verdict-most n) (tally-within n)

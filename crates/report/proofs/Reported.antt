@@ -6,7 +6,8 @@ use mathlib.Core.List.{List, _++_}
 use native.Mathlib.Omega.{arith}
 use borrow.Author.Tests.{le-leb, lt-leb}
 use lib.ListN.{length, drop}
-use Rattle.store.specs.Layout.{blocks}
+use Rattle.layout.specs.declared.Layout.{Layout}
+use Rattle.layout.specs.Layout.{blocks}
 use Rattle.file.specs.declared.Header.the-variants.{Refused, Image}
 use Rattle.file.specs.Bytes.{wordCount, wordsIn}
 use Rattle.file.specs.Header.{headerOf}
@@ -23,10 +24,10 @@ module _ (bytes image out : List ℕ) (next : ℕ) (printed : List ℕ) where
   unfolding reportOf writtenAll
   report-refused number e w = record { prints = rw e w; leaves = rw e }
 
-  module _ (shape s g : ℕ) (e : headerOf bytes ≡ Image shape s g) where
+  module _ (layout : Layout) (e : headerOf bytes ≡ Image layout) where
     pub report-visited : (after : List ℕ) → wordCount (length bytes) ≤ length image
-        → page printed next ≡ writtenAll (imageReport (wordsIn bytes) shape s g) (page out 0)
-        → after ≡ visitedBelow (wordsIn bytes) shape s g (blocks s g) ++ drop (wordCount (length bytes)) image
+        → page printed next ≡ writtenAll (imageReport (wordsIn bytes) layout) (page out 0)
+        → after ≡ visitedBelow (wordsIn bytes) layout (blocks layout) ++ drop (wordCount (length bytes)) image
         → Reports bytes image out next after printed
     unfolding reportOf
     report-visited after h w a =
@@ -35,10 +36,10 @@ module _ (bytes image out : List ℕ) (next : ℕ) (printed : List ℕ) where
           leaves = rw (e, le-leb (wordCount (length bytes)) (length image) h) a;
         }
 
-pub report-no-room : (bytes image out : List ℕ) (shape s g : ℕ) → headerOf bytes ≡ Image shape s g → length image < wordCount (length bytes)
+pub report-no-room : (bytes image out : List ℕ) (layout : Layout) → headerOf bytes ≡ Image layout → length image < wordCount (length bytes)
     → Reports bytes image out 0 image out
 unfolding reportOf
-report-no-room bytes image out shape s g e h =
+report-no-room bytes image out layout e h =
     record {
       prints = rw (e, lt-leb (wordCount (length bytes)) (length image) h);
       leaves = rw (e, lt-leb (wordCount (length bytes)) (length image) h);

@@ -15,13 +15,14 @@ use Rattle.block.specs.Shape.{rows}
 use Rattle.block.specs.declared.Verdict.{Verdict}
 use Rattle.block.specs.declared.Verdict.the-variants.{Clean, Mended, Lost}
 use Rattle.block.specs.Verdict.{verdictCount}
-use Rattle.store.specs.Layout.{blocks}
-use Rattle.store.specs.Reason.{Rule, FirstOf}
-use Rattle.store.proofs.Ladder.{Geometry}
-use Rattle.store.proofs.Shapes.{shape-one, shape-two}
+use Rattle.layout.specs.declared.Layout.{Layout}
+use Rattle.layout.specs.Layout.{blocks}
+use Rattle.ground.specs.Rules.{Rule, FirstOf}
+use Rattle.layout.proofs.Ladder.{Geometry}
+use Rattle.layout.proofs.Shapes.{shape-one, shape-two}
 use Rattle.file.specs.declared.Header.{Header}
 use Rattle.file.specs.declared.Header.the-variants.{Image}
-use Rattle.file.specs.Bytes.{shapeIn, interleaveIn, groupsIn, wordCount, wordsIn}
+use Rattle.file.specs.Bytes.{layoutIn, wordCount, wordsIn}
 use Rattle.file.specs.Refusal.{fileRefusal}
 use Rattle.file.specs.Reason.{fileRules}
 use Rattle.file.specs.Header.{headerIf, headerOf}
@@ -94,42 +95,42 @@ joined-last (first ∷ lines) line =
     let less = length-append first (joined lines) in
     omega (arith, joined-last lines line)
 
-blocks-short : (image : List ℕ) (shape s g n : ℕ) → n ≤ 4096 → length (joined (blockLines image shape s g n)) ≤ 21 * n
+blocks-short : (image : List ℕ) (layout : Layout) (n : ℕ) → n ≤ 4096 → length (joined (blockLines image layout n)) ≤ 21 * n
 unfolding blockLines joined
-blocks-short image shape s g zero h = omega arith
-blocks-short image shape s g (suc n) h =
-    let line = blockLine n (verdictAt image shape s g n) in
-    let last = joined-last (blockLines image shape s g n) line in
-    let short = block-short n (verdictAt image shape s g n) (omega arith) (verdict-most image shape s g n) .few in
-    omega (arith, blocks-short image shape s g n (omega arith))
+blocks-short image layout zero h = omega arith
+blocks-short image layout (suc n) h =
+    let line = blockLine n (verdictAt image layout n) in
+    let last = joined-last (blockLines image layout n) line in
+    let short = block-short n (verdictAt image layout n) (omega arith) (verdict-most image layout n) .few in
+    omega (arith, blocks-short image layout n (omega arith))
 
-report-short : (image : List ℕ) (shape s g : ℕ) → Geometry shape s g → blocks s g ≤ 511 → length (joined (imageReport image shape s g)) ≤ 16384
+report-short : (image : List ℕ) (layout : Layout) → Geometry layout → blocks layout ≤ 511 → length (joined (imageReport image layout)) ≤ 16384
 unfolding imageReport joined
-report-short image shape s g ok few =
-    let n = blocks s g in
-    let known : shape ≤ 2 = ⊎-elim (λ e. omega arith) (λ e. omega arith) (ok .shape-known) in
-    let groups : g ≤ n = omega (arith, mul-le-mul-left g (ok .s-first)) in
-    let total = totalLine (tallyBelow image shape s g n) in
-    let first = imageLine shape s g n in
-    let rest = blockLines image shape s g n ++ total ∷ [] in
+report-short image layout ok few =
+    let n = blocks layout in
+    let known : layout .shape ≤ 2 = ⊎-elim (λ e. omega arith) (λ e. omega arith) (ok .shape-known) in
+    let groups : layout .g ≤ n = omega (arith, mul-le-mul-left (layout .g) (ok .s-first)) in
+    let total = totalLine (tallyBelow image layout n) in
+    let first = imageLine (layout .shape) (layout .s) (layout .g) n in
+    let rest = blockLines image layout n ++ total ∷ [] in
     omega (
       arith,
       length-append first (joined rest),
-      image-short shape s g n (omega arith) (omega (arith, ok .s-last)) (omega arith) (omega arith) .few,
-      joined-last (blockLines image shape s g n) total,
-      blocks-short image shape s g n (omega arith),
-      total-short n (tallyBelow image shape s g n) (omega arith) (tally-within image shape s g n) .few,
+      image-short (layout .shape) (layout .s) (layout .g) n (omega arith) (omega (arith, ok .s-last)) (omega arith) (omega arith) .few,
+      joined-last (blockLines image layout n) total,
+      blocks-short image layout n (omega arith),
+      total-short n (tallyBelow image layout n) (omega arith) (tally-within image layout n) .few,
     )
 
 -- ---- the report of a file
 
 -- a file has room for at most 511 blocks
-few-blocks : (bytes : List ℕ) → Accepted bytes → blocks (interleaveIn bytes) (groupsIn bytes) ≤ 511
+few-blocks : (bytes : List ℕ) → Accepted bytes → blocks (layoutIn bytes) ≤ 511
 few-blocks bytes ok =
-    let size : Shape → ℕ = λ (shape : Shape). 4 * (rows shape * blocks (interleaveIn bytes) (groupsIn bytes)) in
+    let size : Shape → ℕ = λ (shape : Shape). 4 * (rows shape * blocks (layoutIn bytes)) in
     ⊎-elim
-    (λ e. omega (arith, ok .frame .most, ok .body ∙ ap size (shape-one (shapeIn bytes) e)))
-    (λ e. omega (arith, ok .frame .most, ok .body ∙ ap size (shape-two (shapeIn bytes) (λ q. omega arith))))
+    (λ e. omega (arith, ok .frame .most, ok .body ∙ ap size (shape-one (layoutIn bytes .shape) e)))
+    (λ e. omega (arith, ok .frame .most, ok .body ∙ ap size (shape-two (layoutIn bytes .shape) (λ q. omega arith))))
     (ok .geometry .shape-known)
 
 -- no rule has a number above 11
@@ -151,7 +152,7 @@ number-most bytes = first-low (fileRules bytes) (fileRefusal bytes) tt (file-fir
 
 module _ (bytes : List ℕ) where
   abbrev found : Header
-  found = Image (shapeIn bytes) (interleaveIn bytes) (groupsIn bytes)
+  found = Image (layoutIn bytes)
 
   pub file-short : length (joined (reportOf bytes)) ≤ 16384
   unfolding reportOf headerOf joined
@@ -160,7 +161,7 @@ module _ (bytes : List ℕ) where
       by : (n : ℕ) → fileRefusal bytes ≡ n → length (joined (reportFor (headerIf n found) (wordsIn bytes))) ≤ 16384
       by zero e =
           let ok = accepted bytes e in
-          report-short (wordsIn bytes) (shapeIn bytes) (interleaveIn bytes) (groupsIn bytes) (ok .geometry) (few-blocks bytes ok)
+          report-short (wordsIn bytes) (layoutIn bytes) (ok .geometry) (few-blocks bytes ok)
       by (suc n) e =
           let most = number-most bytes in
           let short = refusal-short (suc n) (omega arith) .few in

@@ -1,17 +1,8 @@
--- What the code computes on its way: the verdict of an answer, a tally that has room. Assumes nothing.
+-- What the code computes on its way: a tally that has room. Assumes nothing.
 use Prim.Native.Nat.{_≤_}
 use Rattle.block.specs.declared.Verdict.{Verdict}
-use Rattle.block.specs.declared.Verdict.the-variants.{Clean}
 use Rattle.block.specs.Verdict.{verdictCount}
-use Rattle.store.specs.declared.Answer.{Answer}
-use Rattle.store.specs.declared.Answer.the-variants.{Refused, Stored, Found}
 use Rattle.report.specs.declared.Tally.{Tally}
-
--- the verdict of an answer; a visit of an accepted layout has one, and any other answer never comes
-abbrev pub verdictIn : Answer → Verdict
-verdictIn (Refused number) = Clean
-verdictIn Stored = Clean
-verdictIn (Found verdict) = verdict
 
 -- a tally of at most 4,096 blocks, and a verdict of at most 32 bits
 pub record Countable (verdict : Verdict) (tally : Tally) : Type 0 where

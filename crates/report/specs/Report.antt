@@ -8,8 +8,8 @@ use lib.Dec.{leb}
 use lib.ListN.{length, drop}
 use Rattle.block.specs.declared.Verdict.{Verdict}
 use Rattle.block.specs.Verdict.{verdictOf}
-use Rattle.store.specs.Layout.{blocks}
-use Rattle.store.specs.Shapes.{shapeOf}
+use Rattle.layout.specs.declared.Layout.{Layout}
+use Rattle.layout.specs.Layout.{shapeOf, blocks}
 use Rattle.store.specs.Image.{gathered}
 use Rattle.store.specs.Visit.{visitAfter}
 use Rattle.file.specs.declared.Header.{Header}
@@ -23,32 +23,32 @@ use Rattle.report.specs.Lines.{refusalLine, imageLine, blockLine, totalL
 -- ---- an image
 
 -- the image after the blocks below n have been visited, in order
-unfoldable pub visitedBelow : List ℕ → ℕ → ℕ → ℕ → ℕ → List ℕ
-visitedBelow image shape s g zero = image
-visitedBelow image shape s g (suc n) = visitAfter (visitedBelow image shape s g n) shape s g n
+unfoldable pub visitedBelow : List ℕ → Layout → ℕ → List ℕ
+visitedBelow image layout zero = image
+visitedBelow image layout (suc n) = visitAfter (visitedBelow image layout n) layout n
 
 -- what the visit of a block finds, those below it having been visited
-unfoldable pub verdictAt : List ℕ → ℕ → ℕ → ℕ → ℕ → Verdict
-verdictAt image shape s g block = verdictOf (shapeOf shape) (gathered (shapeOf shape) s block (visitedBelow image shape s g block))
+unfoldable pub verdictAt : List ℕ → Layout → ℕ → Verdict
+verdictAt image layout block = verdictOf (shapeOf layout) (gathered layout block (visitedBelow image layout block))
 
 -- the lines of the blocks below n, and their tally
-unfoldable pub blockLines : List ℕ → ℕ → ℕ → ℕ → ℕ → List (List ℕ)
-blockLines image shape s g zero = []
-blockLines image shape s g (suc n) = blockLines image shape s g n ++ blockLine n (verdictAt image shape s g n) ∷ []
+unfoldable pub blockLines : List ℕ → Layout → ℕ → List (List ℕ)
+blockLines image layout zero = []
+blockLines image layout (suc n) = blockLines image layout n ++ blockLine n (verdictAt image layout n) ∷ []
 
-unfoldable pub tallyBelow : List ℕ → ℕ → ℕ → ℕ → ℕ → Tally
-tallyBelow image shape s g zero = noBlocks
-tallyBelow image shape s g (suc n) = counted (verdictAt image shape s g n) (tallyBelow image shape s g n)
+unfoldable pub tallyBelow : List ℕ → Layout → ℕ → Tally
+tallyBelow image layout zero = noBlocks
+tallyBelow image layout (suc n) = counted (verdictAt image layout n) (tallyBelow image layout n)
 
-unfoldable pub imageReport : List ℕ → ℕ → ℕ → ℕ → List (List ℕ)
-imageReport image shape s g =
-    imageLine shape s g (blocks s g) ∷ blockLines image shape s g (blocks s g) ++ totalLine (tallyBelow image shape s g (blocks s g)) ∷ []
+unfoldable pub imageReport : List ℕ → Layout → List (List ℕ)
+imageReport image layout =
+    imageLine (layout .shape) (layout .s) (layout .g) (blocks layout) ∷ blockLines image layout (blocks layout) ++ totalLine (tallyBelow image layout (blocks layout)) ∷ []
 
 -- ---- a file
 
 abbrev pub reportFor : Header → List ℕ → List (List ℕ)
 reportFor (Refused number) words = refusalLine number ∷ []
-reportFor (Image shape s g) words = imageReport words shape s g
+reportFor (Image layout) words = imageReport words layout
 
 -- the lines that are printed of a file
 unfoldable pub reportOf : List ℕ → List (List ℕ)
@@ -57,14 +57,14 @@ reportOf bytes = reportFor (headerOf bytes) (wordsIn bytes)
 -- the lent image has room for the words, if there are any to copy
 abbrev pub room? : Header → List ℕ → List ℕ → Bool
 room? (Refused number) bytes image = true
-room? (Image shape s g) bytes image = leb (wordCount (length bytes)) (length image)
+room? (Image layout) bytes image = leb (wordCount (length bytes)) (length image)
 
 -- the lent image after the blocks were visited there; words past them, and an image with no room, are as they were
 abbrev pub visitedFor : Header → List ℕ → List ℕ → List ℕ
 visitedFor (Refused number) bytes image = image
-visitedFor (Image shape s g) bytes image =
+visitedFor (Image layout) bytes image =
     cond (leb (wordCount (length bytes)) (length image))
-    (visitedBelow (wordsIn bytes) shape s g (blocks s g) ++ drop (wordCount (length bytes)) image)
+    (visitedBelow (wordsIn bytes) layout (blocks layout) ++ drop (wordCount (length bytes)) image)
     image
 
 -- the promise of inspect: the lines are written from byte 0 on, each that fits; where the image has no room, none is

@@ -2,13 +2,13 @@
 ghost use mathlib.Core.Path.{_≡_};
 ghost use Prim.Native.Nat.{_*_, _<_};
 ghost use lib.ListN.{length};
-ghost use Rattle.store.specs.Layout.{blocks};
-ghost use Rattle.store.specs.Refusal.{layoutRefusal};
+ghost use Rattle.layout.specs.Layout.{blocks};
+ghost use Rattle.layout.specs.Refusal.{imageRefusal};
 ghost use Rattle.file.specs.Bytes.{wordCount, wordsIn};
 ghost use Rattle.text.specs.Page.{page, writtenAll};
 ghost use Rattle.report.specs.Lines.{counted};
 ghost use Rattle.report.specs.Report.{visitedBelow, imageReport, Reports};
-ghost use Rattle.report.specs.Inner.{verdictIn, Countable};
+ghost use Rattle.report.specs.Inner.{Countable};
 use super::Tally;
 use super::lines::block_line;
 use super::lines::image_line;
@@ -16,18 +16,8 @@ use super::lines::refusal_line;
 use super::lines::total_line;
 use block::Verdict;
 use file::Header;
-use store::Answer;
-
-// The verdict that a visit found.
-fn verdict_in(answer: Answer) -> Verdict
-    ensures { λ r. ⌜ r ≡ verdictIn answer ⌝ }
-{
-    match answer {
-        Answer::Found(verdict) => verdict,
-        Answer::Stored => Verdict::Clean,
-        Answer::Refused(_) => Verdict::Clean,
-    }
-}
+use layout::Layout;
+use store::visit_accepted;
 
 // A tally with one block more.
 fn count(tally: Tally, verdict: Verdict) -> Tally
@@ -51,13 +41,13 @@ fn count(tally: Tally, verdict: Verdict) -> Tally
 }
 
 // Visits each block of an image whose layout is accepted.
-fn report_image(image: &mut [u32], shape: u32, s: u32, g: u32, out: &mut [u8]) -> usize
-    requires { ⌜ layoutRefusal (length (now image)) shape s g ≡ 0 ⌝ }
-    ensures prints { λ r. ⌜ page (now (out .exit)) r ≡ writtenAll (imageReport (now (image .entry)) shape s g) (page (now (out .entry)) 0) ⌝ }
-    ensures leaves { λ r. ⌜ now (image .exit) ≡ visitedBelow (now (image .entry)) shape s g (blocks s g) ⌝ }
+fn report_image(image: &mut [u32], layout: Layout, out: &mut [u8]) -> usize
+    requires { ⌜ imageRefusal (length (now image)) layout ≡ 0 ⌝ }
+    ensures prints { λ r. ⌜ page (now (out .exit)) r ≡ writtenAll (imageReport (now (image .entry)) layout) (page (now (out .entry)) 0) ⌝ }
+    ensures leaves { λ r. ⌜ now (image .exit) ≡ visitedBelow (now (image .entry)) layout (blocks layout) ⌝ }
 {
-    let n = g * s;
-    let mut at = image_line(shape, s, g, n, out, 0);
+    let n = layout.blocks() as u32;
+    let mut at = image_line(layout.shape, layout.s, layout.g, n, out, 0);
     let mut tally = Tally {
         clean: 0,
         mended: 0,
@@ -65,7 +55,7 @@ fn report_image(image: &mut [u32], shape: u32, s: u32, g: u32, out: &mut [u8]) -
         bits: 0,
     };
     for k in 0..n {
-        let verdict = verdict_in(store::visit(image, shape, s, g, k));
+        let verdict = visit_accepted(image, layout, k);
         at = block_line(k, verdict, out, at);
         tally = count(tally, verdict);
     }
@@ -73,20 +63,13 @@ fn report_image(image: &mut [u32], shape: u32, s: u32, g: u32, out: &mut [u8]) -
 }
 
 // Copies the words of a file to an image of their number, and visits each block there.
-fn report_words(
-    bytes: &[u8],
-    image: &mut [u32],
-    shape: u32,
-    s: u32,
-    g: u32,
-    out: &mut [u8],
-) -> usize
-    requires { ⌜ (length (now image) ≡ wordCount (length (now bytes))) × (layoutRefusal (wordCount (length (now bytes))) shape s g ≡ 0) ⌝ }
-    ensures prints { λ r. ⌜ page (now (out .exit)) r ≡ writtenAll (imageReport (wordsIn (now (bytes .entry))) shape s g) (page (now (out .entry)) 0) ⌝ }
-    ensures leaves { λ r. ⌜ now (image .exit) ≡ visitedBelow (wordsIn (now (bytes .entry))) shape s g (blocks s g) ⌝ }
+fn report_words(bytes: &[u8], image: &mut [u32], layout: Layout, out: &mut [u8]) -> usize
+    requires { ⌜ (length (now image) ≡ wordCount (length (now bytes))) × (imageRefusal (wordCount (length (now bytes))) layout ≡ 0) ⌝ }
+    ensures prints { λ r. ⌜ page (now (out .exit)) r ≡ writtenAll (imageReport (wordsIn (now (bytes .entry))) layout) (page (now (out .entry)) 0) ⌝ }
+    ensures leaves { λ r. ⌜ now (image .exit) ≡ visitedBelow (wordsIn (now (bytes .entry))) layout (blocks layout) ⌝ }
 {
     file::read_words(bytes, image);
-    report_image(image, shape, s, g, out)
+    report_image(image, layout, out)
 }
 
 // Copies the words of a file to the lent image, visits each block there, and writes the report from byte 0 of `out` on; answers its end.
@@ -95,12 +78,12 @@ pub fn inspect(bytes: &[u8], image: &mut [u32], out: &mut [u8]) -> usize
 {
     match file::read_header(bytes) {
         Header::Refused(number) => refusal_line(number, out, 0),
-        Header::Image { shape, s, g } => {
+        Header::Image(layout) => {
             let count = file::word_count(bytes.len());
             if image.len() < count {
                 return 0;
             }
-            report_words(bytes, &mut image[..count], shape, s, g, out)
+            report_words(bytes, &mut image[..count], layout, out)
         }
     }
 }

@@ -25,9 +25,8 @@ abbrev room-seen : tie.After-report-words-arg2 → tie.Else1
 room-seen c = c .before .before
 
 -- the header names a layout
-header : (c : tie.After-word-count) → let layout = c .before .before .shape .given .0 in
-    headerOf (start (header-read c) .args .bytes .now) ≡ Image (layout .0) (layout .1 .0) (layout .1 .1 .0)
-header c = sym (header-read c .read-header .ensures) ∙ c .before .before .shape .given .1
+header : (c : tie.After-word-count) → headerOf (start (header-read c) .args .bytes .now) ≡ Image (c .before .before .layout .given .0)
+header c = sym (header-read c .read-header .ensures) ∙ c .before .before .layout .given .1
 
 -- ---- the needs
 
@@ -40,14 +39,14 @@ enum-known-number c = search needs
 refusal-line-requires : tie.Need-refusal-line-requires
 refusal-line-requires c κs = search needs
 
-enum-known-shape : tie.Need-enum-known-shape
-enum-known-shape c = search needs
+enum-known-layout : tie.Need-enum-known-layout
+enum-known-layout c = search needs
 
 word-count-requires : tie.Need-word-count-requires
 word-count-requires c κs = search needs
 
 returns : tie.Need-returns
-returns c = report-no-room _ _ _ _ _ _ (header (c .before)) (omega (arith, c .before .word-count .ensures, c .if1 .taken))
+returns c = report-no-room _ _ _ _ (header (c .before)) (omega (arith, c .before .word-count .ensures, c .if1 .taken))
 
 slice-relend-prefix-report-words : tie.Need-slice-relend-prefix-report-words
 slice-relend-prefix-report-words c = search needs
@@ -62,7 +61,7 @@ report-words-requires c κs =
     let counted = room-seen c .before in
     let a = start (header-read counted) .args in (
       length-take-le (counted .word-count .result) (a .image .now) (room-seen c .if1 .left) ∙ counted .word-count .ensures,
-      words-layout (a .bytes .now) _ _ _ (header counted),
+      words-layout (a .bytes .now) _ (header counted),
     )
 
 same-length : tie.Need-same-length
@@ -86,7 +85,7 @@ returns-3 c =
     let room = room-seen (reported .before) in
     let count = room .before .word-count .ensures in
     let a = start (header-read (room .before)) .args in
-    report-visited (a .bytes .now) (a .image .now) (a .out .now) _ _ _ _ _ (header (room .before)) _
+    report-visited (a .bytes .now) (a .image .now) (a .out .now) _ _ _ (header (room .before)) _
     (omega (arith, count, room .if1 .left))
     (reported .report-words .ensures .0)
     (ap₂ (λ (words : List ℕ) (n : ℕ). words ++ drop n (a .image .now)) (reported .report-words .ensures .1) count)
@@ -98,7 +97,7 @@ inspect-spec =
     read-header-requires
     enum-known-number
     refusal-line-requires
-    enum-known-shape
+    enum-known-layout
     word-count-requires
     returns
     slice-relend-prefix-report-words

@@ -9,30 +9,31 @@ use lib.ListN.{length}
 use Rattle.block.specs.declared.Verdict.{Verdict}
 use Rattle.block.specs.Verdict.{verdictCount}
 use Rattle.store.specs.declared.Answer.{Answer}
-use Rattle.store.specs.Layout.{blocks}
+use Rattle.layout.specs.Layout.{blocks}
+use Rattle.layout.proofs.Ladder.{geometry, image-layout}
+use Rattle.store.specs.Answer.{verdictIn}
 use Rattle.store.specs.Visit.{visitAnswer, visitAfter}
 use Rattle.report.specs.declared.Tally.{Tally}
-use Rattle.report.specs.Inner.{verdictIn}
 use Rattle.report.specs.Lines.{blockLine, totalLine, counted}
 use Rattle.report.specs.Report.{verdictAt, imageReport, visitedBelow, blockLines, tallyBelow}
 use Rattle.text.specs.Page.{written, page, writtenAll}
 use Rattle.report.proofs.Counts.{Within, verdict-most, tally-within}
 use Rattle.text.proofs.Pages.{written-last}
-use Rattle.report.proofs.Visited.{visit-finds, layout-geometry}
+use Rattle.report.proofs.Visited.{visit-finds}
 use Rattle.report.proofs.reporting.report_image.Statement.{statement}
 use Rattle.report.proofs.reporting.report_image.Tie as tie
 
 abbrev Inv-loop : tie.InvT-loop
-Inv-loop image₀ shape s g out₀ n at₀ tally₀ k₀ image out at tally k =
+Inv-loop image₀ layout out₀ n at₀ tally₀ k₀ image out at tally k =
     (k ≤ n)
-    × (image ≡ visitedBelow image₀ shape s g k)
-    × (page out at ≡ writtenAll (blockLines image₀ shape s g k) (page out₀ at₀))
-    × (tally ≡ tallyBelow image₀ shape s g k)
+    × (image ≡ visitedBelow image₀ layout k)
+    × (page out at ≡ writtenAll (blockLines image₀ layout k) (page out₀ at₀))
+    × (tally ≡ tallyBelow image₀ layout k)
     × (length image ≡ length image₀)
     × (length out ≡ length out₀)
 
 abbrev μ-loop : tie.MeasureT-loop
-μ-loop image₀ shape s g out₀ n at₀ tally₀ k₀ image out at tally k = n - k
+μ-loop image₀ layout out₀ n at₀ tally₀ k₀ image out at tally k = n - k
 
 -- ---- the points of the walk
 
@@ -52,37 +53,37 @@ ended c = c .before .before .before .before
 
 module _ (c : tie.Start Inv-loop μ-loop) where
   abbrev answers : List ℕ → ℕ → Answer
-  answers image k = visitAnswer image (c .args .shape) (c .args .s) (c .args .g) k
+  answers image k = visitAnswer image (c .args .layout) k
 
   abbrev leaves : List ℕ → ℕ → List ℕ
-  leaves image k = visitAfter image (c .args .shape) (c .args .s) (c .args .g) k
+  leaves image k = visitAfter image (c .args .layout) k
 
   abbrev verdicts : ℕ → Verdict
-  verdicts = verdictAt (c .args .image .now) (c .args .shape) (c .args .s) (c .args .g)
+  verdicts = verdictAt (c .args .image .now) (c .args .layout)
 
   abbrev images : ℕ → List ℕ
-  images = visitedBelow (c .args .image .now) (c .args .shape) (c .args .s) (c .args .g)
+  images = visitedBelow (c .args .image .now) (c .args .layout)
 
   abbrev lines : ℕ → List (List ℕ)
-  lines = blockLines (c .args .image .now) (c .args .shape) (c .args .s) (c .args .g)
+  lines = blockLines (c .args .image .now) (c .args .layout)
 
   abbrev tallies : ℕ → Tally
-  tallies = tallyBelow (c .args .image .now) (c .args .shape) (c .args .s) (c .args .g)
+  tallies = tallyBelow (c .args .image .now) (c .args .layout)
 
   abbrev many : ℕ
-  many = blocks (c .args .s) (c .args .g)
+  many = blocks (c .args .layout)
 
   few : many ≤ 4096
-  few = layout-geometry _ _ _ _ (c .pre) .n-last
+  few = geometry (c .args .layout) (image-layout (c .args .layout) _ (c .pre)) .n-last
 
   finds : (k : ℕ) → k < many → verdictIn (answers (images k) k) ≡ verdicts k
-  finds = visit-finds (c .args .image .now) (c .args .shape) (c .args .s) (c .args .g) (c .pre)
+  finds = visit-finds (c .args .image .now) (c .args .layout) (c .pre)
 
   small : (k : ℕ) → verdictCount (verdicts k) ≤ 32
-  small = verdict-most (c .args .image .now) (c .args .shape) (c .args .s) (c .args .g)
+  small = verdict-most (c .args .image .now) (c .args .layout)
 
   within : (k : ℕ) → Within k (tallies k)
-  within = tally-within (c .args .image .now) (c .args .shape) (c .args .s) (c .args .g)
+  within = tally-within (c .args .image .now) (c .args .layout)
 
 -- the verdict of a turn is that of its block
 found : (c : tie.After-verdict-in Inv-loop μ-loop) → c .verdict-in .result ≡ verdicts (start (turn c .before)) (turn c .before .loop .k)

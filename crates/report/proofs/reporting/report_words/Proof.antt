@@ -3,8 +3,8 @@ use Prim.Native.Nat.{ℕ}
 use mathlib.Core.Path.{ap, _∙_}
 use mathlib.Core.List.{List}
 use borrow.Author.Needs.{needs}
-use Rattle.store.specs.Layout.{blocks}
-use Rattle.store.specs.Refusal.{layoutRefusal}
+use Rattle.layout.specs.Layout.{blocks}
+use Rattle.layout.specs.Refusal.{imageRefusal}
 use Rattle.file.proofs.Layouts.{words-fill}
 use Rattle.text.specs.Page.{page, writtenAll}
 use Rattle.report.specs.Report.{visitedBelow, imageReport}
@@ -22,7 +22,7 @@ report-image-requires : tie.Need-report-image-requires
 report-image-requires c κs =
     let read = c .before .before .before .before in
     let a = start read .args in
-    ap (λ (len : ℕ). layoutRefusal len (a .shape) (a .s) (a .g)) (read .read-words .kept .1 .0 ∙ start read .pre .0) ∙ start read .pre .1
+    ap (λ (len : ℕ). imageRefusal len (a .layout)) (read .read-words .kept .1 .0 ∙ start read .pre .0) ∙ start read .pre .1
 
 same-length : tie.Need-same-length
 same-length c = search needs
@@ -37,9 +37,9 @@ returns c =
     let a = start read .args in
     let words = read .read-words .ensures ∙ words-fill (a .bytes .now) (a .image .now) (start read .pre .0) in (
       reported .report-image .ensures .0
-          ∙ ap (λ (image : List ℕ). writtenAll (imageReport image (a .shape) (a .s) (a .g)) (page (a .out .now) 0)) words,
+          ∙ ap (λ (image : List ℕ). writtenAll (imageReport image (a .layout)) (page (a .out .now) 0)) words,
       reported .report-image .ensures .1
-          ∙ ap (λ (image : List ℕ). visitedBelow image (a .shape) (a .s) (a .g) (blocks (a .s) (a .g))) words,
+          ∙ ap (λ (image : List ℕ). visitedBelow image (a .layout) (blocks (a .layout))) words,
     )
 
 pub report-words-spec : {M : Type 1} → statement M
