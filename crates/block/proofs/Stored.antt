@@ -65,6 +65,10 @@ unfolding rowsWhere bit
 rows-10 One = refl
 rows-10 Two = refl
 
+-- what is found by a table is found by the rows that are meant, where the table lists them
+pub by-table : (block rows : List ℕ) {found : ℕ} {table : List ℕ} → found ≡ xorOver table block → table ≡ rows → found ≡ xorOver rows block
+by-table block rows e same = e ∙ ap (λ (l : List ℕ). xorOver l block) same
+
 module _ (shape : Shape) (block : List ℕ) where
   abbrev over : List ℕ → ℕ
   over list = xorOver list block

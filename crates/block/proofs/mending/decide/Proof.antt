@@ -68,6 +68,9 @@ module _ (c : tie.After-any) where
   none-is : bitOr (c .any .result) (summed c .lane-sums .result .parity) ≡ bitOr (anyOf 7 (sums .digits)) (sums .parity)
   none-is = ap₂ bitOr any-is parity-is
 
+above-of : (top : ℕ) (digits : List ℕ) {found t : ℕ} {d : List ℕ} → found ≡ aboveOf t 7 d → t ≡ top → d ≡ digits → found ≡ aboveOf top 7 digits
+above-of top digits e et ed = e ∙ ap₂ (λ (t : ℕ) (d : List ℕ). aboveOf t 7 d) et ed
+
 module _ (c : tie.After-above) where
   abbrev words : tie.After-any
   words = c .before .before .before .before
@@ -76,7 +79,7 @@ module _ (c : tie.After-above) where
   top-is = c .before .before .rows-before .ensures
 
   above-is : c .above .result ≡ aboveOf (before (shape words)) 7 (sums words .digits)
-  above-is = c .above .ensures ∙ ap₂ (λ (t : ℕ) (s : Sums). aboveOf t 7 (s .digits)) top-is (sums-are words)
+  above-is = above-of (before (shape words)) (sums words .digits) (c .above .ensures) (omega (arith, top-is)) (ap (λ (s : Sums). s .digits) (sums-are words))
 
   abbrev parity : ℕ
   parity = summed words .lane-sums .result .parity

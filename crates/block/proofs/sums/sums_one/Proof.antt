@@ -1,11 +1,12 @@
 -- `block::sums::sums_one` meets its contract: its tables are, by computing, the rows that each check row covers. Assumes nothing.
+use mathlib.Core.Path.{refl}
 use native.Mathlib.Omega.{arith}
 use lib.ListN.{length-set, drop}
 use borrow.Author.Needs.{needs}
 use Rattle.lane.specs.Bit.{bit}
-use Rattle.lane.specs.Rows.{rowsWhere}
+use Rattle.lane.specs.Rows.{rowsWhere, covered}
 use Rattle.block.proofs.Listed.{rows-listed}
-use Rattle.block.proofs.Stored.{eight, ends-11, ends-01, ends-10, ends-00, stored-one}
+use Rattle.block.proofs.Stored.{eight, ends-11, ends-01, ends-10, ends-00, by-table, stored-one}
 use Rattle.block.proofs.sums.sums_one.Statement.{statement}
 use Rattle.block.proofs.sums.sums_one.Tie as tie
 
@@ -18,6 +19,21 @@ second c = c .before .before .before .before
 
 abbrev fourth : tie.After-over6 → tie.After-over4
 fourth c = c .before .before .before .before
+
+-- each table lists, by computing, the rows that are meant
+returns : tie.Need-returns
+unfolding rowsWhere bit
+returns c =
+    let after-4 = fourth c in
+    let after-2 = second after-4 in
+    let args = start after-2 .args in
+    let block = drop (args .at) (args .words .now) in
+    stored-one block _ (start after-2 .pre .1) (by-table block (rowsWhere ends-11 15) (after-2 .before .before .over .ensures) refl)
+    (by-table block (rowsWhere ends-01 15) (after-2 .over2 .ensures) refl)
+    (by-table block (rowsWhere ends-10 15) (after-4 .before .before .over3 .ensures) refl)
+    (by-table block (covered 2 15) (after-4 .over4 .ensures) refl)
+    (by-table block (covered 3 15) (c .before .before .over5 .ensures) refl)
+    (by-table block (rowsWhere ends-00 16) (c .over6 .ensures) refl)
 
 slice-aggregate-over : tie.Need-slice-aggregate-over
 slice-aggregate-over c = search needs
@@ -78,15 +94,6 @@ slice-write-sums-5 c = simp length-set (omega (arith, eight _ (start (second (fo
 
 same-length : tie.Need-same-length
 same-length c = simp length-set
-
-returns : tie.Need-returns
-unfolding rowsWhere bit
-returns c =
-    let after-4 = fourth c in
-    let after-2 = second after-4 in
-    let args = start after-2 .args in
-    stored-one (drop (args .at) (args .words .now)) _ (start after-2 .pre .1) (after-2 .before .before .over .ensures) (after-2 .over2 .ensures)
-    (after-4 .before .before .over3 .ensures) (after-4 .over4 .ensures) (c .before .before .over5 .ensures) (c .over6 .ensures)
 
 pub sums-one-spec : {M : Type 1} → statement M
 sums-one-spec =

@@ -1,11 +1,12 @@
 -- `block::sums::sums_two` meets its contract: its tables are, by computing, the rows that each check row covers. Assumes nothing.
+use mathlib.Core.Path.{refl}
 use native.Mathlib.Omega.{arith}
 use lib.ListN.{length-set, drop}
 use borrow.Author.Needs.{needs}
 use Rattle.lane.specs.Bit.{bit}
-use Rattle.lane.specs.Rows.{rowsWhere}
+use Rattle.lane.specs.Rows.{rowsWhere, covered}
 use Rattle.block.proofs.Listed.{rows-listed}
-use Rattle.block.proofs.Stored.{eight, ends-11, ends-01, ends-10, ends-00, stored-two}
+use Rattle.block.proofs.Stored.{eight, ends-11, ends-01, ends-10, ends-00, by-table, stored-two}
 use Rattle.block.proofs.sums.sums_two.Statement.{statement}
 use Rattle.block.proofs.sums.sums_two.Tie as tie
 
@@ -21,6 +22,26 @@ fourth c = c .before .before .before .before
 
 abbrev sixth : tie.After-over8 → tie.After-over6
 sixth c = c .before .before .before .before
+
+-- each table lists, by computing, the rows that are meant
+returns : tie.Need-returns
+unfolding rowsWhere bit
+returns c =
+    let after-8 = c .before .before in
+    let after-6 = sixth after-8 in
+    let after-4 = fourth after-6 in
+    let after-2 = second after-4 in
+    let args = start after-2 .args in
+    let block = drop (args .at) (args .words .now) in
+    stored-two block _ (start after-2 .pre .1) (by-table block (rowsWhere ends-11 71) (after-2 .before .before .over .ensures) refl)
+    (by-table block (rowsWhere ends-01 71) (after-2 .over2 .ensures) refl)
+    (by-table block (rowsWhere ends-10 71) (after-4 .before .before .over3 .ensures) refl)
+    (by-table block (covered 2 71) (after-4 .over4 .ensures) refl)
+    (by-table block (covered 3 71) (after-6 .before .before .over5 .ensures) refl)
+    (by-table block (covered 4 71) (after-6 .over6 .ensures) refl)
+    (by-table block (covered 5 71) (after-8 .before .before .over7 .ensures) refl)
+    (by-table block (covered 6 71) (after-8 .over8 .ensures) refl)
+    (by-table block (rowsWhere ends-00 72) (c .over9 .ensures) refl)
 
 slice-aggregate-over : tie.Need-slice-aggregate-over
 slice-aggregate-over c = search needs
@@ -111,18 +132,6 @@ slice-write-sums-8 c = simp length-set (omega (arith, eight _ (start (second (fo
 
 same-length : tie.Need-same-length
 same-length c = simp length-set
-
-returns : tie.Need-returns
-unfolding rowsWhere bit
-returns c =
-    let after-8 = c .before .before in
-    let after-6 = sixth after-8 in
-    let after-4 = fourth after-6 in
-    let after-2 = second after-4 in
-    let args = start after-2 .args in
-    stored-two (drop (args .at) (args .words .now)) _ (start after-2 .pre .1) (after-2 .before .before .over .ensures) (after-2 .over2 .ensures)
-    (after-4 .before .before .over3 .ensures) (after-4 .over4 .ensures) (after-6 .before .before .over5 .ensures) (after-6 .over6 .ensures)
-    (after-8 .before .before .over7 .ensures) (after-8 .over8 .ensures) (c .over9 .ensures)
 
 pub sums-two-spec : {M : Type 1} → statement M
 sums-two-spec =
