@@ -82,10 +82,12 @@ module _ (shape : Shape) (block : List ℕ) where
     pub lane-mended : (i : ℕ) → i < 32 → (j : ℕ) → j < rows shape → lane i (mendedLanes shape block) (suc j) ≡ mended (before shape) (lane i block) (suc j)
     unfolding mendedLanes
     lane-mended i hi j h =
-        ap (bit i) (getD-listOf (length block) _ j (omega arith)) ∙ bit-xor i (getD block j 0) (word (λ i. changes (decide (before shape) (lane i block)) (suc j)))
+        ap (bit i) (getD-listOf (length block) _ j (omega arith))
+        ∙ bit-xor i (getD block j 0) (word (λ i. changes (decide (before shape) (lane i block)) (suc j)))
         ∙ ap (λ (b : Bool). bit i (getD block j 0) ⊕ b) (bit-number 32 i _ hi)
 
-    lane-apart : (i : ℕ) → i < 32 → apart (before shape) (lane i block) (lane i (mendedLanes shape block)) ≡ apart (before shape) (lane i block) (mended (before shape) (lane i block))
+    lane-apart : (i : ℕ) → i < 32
+        → apart (before shape) (lane i block) (lane i (mendedLanes shape block)) ≡ apart (before shape) (lane i block) (mended (before shape) (lane i block))
     lane-apart i hi =
         count-same (rows shape) (diff (lane i block) (lane i (mendedLanes shape block))) (diff (lane i block) (mended (before shape) (lane i block)))
         (λ j h. ap (λ (b : Bool). lane i block (suc j) ⊕ b) (lane-mended i hi j h))

@@ -63,9 +63,10 @@ power-once k l e =
 xor-seven : (shape : Shape) (s : ℕ) → s < 2 ^ digits shape → xorDigits 7 s ≡ xorDigits (digits shape) s
 unfolding xorDigits
 xor-seven One s h =
-    ap₂ _⊕_ (ap₂ _⊕_ (ap (λ (b : Bool). xorDigits 4 s ⊕ b) (bit-high 4 4 s h (le-refl 4)) ∙ ⊕-zero (xorDigits 4 s)) (bit-high 4 5 s h (lit≤ tt)) ∙ ⊕-zero (xorDigits 4 s))
+    let none = ⊕-zero (xorDigits 4 s) in
+    ap₂ _⊕_ (ap₂ _⊕_ (ap (λ (b : Bool). xorDigits 4 s ⊕ b) (bit-high 4 4 s h (le-refl 4)) ∙ none) (bit-high 4 5 s h (lit≤ tt)) ∙ none)
     (bit-high 4 6 s h (lit≤ tt))
-    ∙ ⊕-zero (xorDigits 4 s)
+    ∙ none
 xor-seven Two s h = refl
 
 pub xor-over-lt : (list block : List ℕ) → ((j : ℕ) → getD block j 0 < 2 ^ 32) → xorOver list block < 2 ^ 32
@@ -235,5 +236,8 @@ module _ (shape : Shape) (list : List ℕ) (words-fit : (k : ℕ) → getD list 
       list-is 72 (set withDigits m lastWord) meant (length-set withDigits m lastWord ∙ length-checks)
       (λ j h.
       by-cases (ℕ-discrete j m)
-      (λ e. rw e (getD-set-same withDigits m lastWord 0 (let b = before-lt shape in let n = length-checks in omega arith) ∙ last-row ∙ sym (meant-in m (omega arith))))
+      (λ e.
+      let b = before-lt shape in
+      let n = length-checks in
+      rw e (getD-set-same withDigits m lastWord 0 (omega arith) ∙ last-row ∙ sym (meant-in m (omega arith))))
       (λ ne. getD-set-other withDigits m j lastWord 0 ne ∙ at-place j ne))

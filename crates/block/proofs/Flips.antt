@@ -12,12 +12,11 @@ use lib.Count.{trailingZeros, under}
 use lib.Dec.{eqb, eqb·suc-zero}
 use lib.ListN.{length, getD, set, length-set}
 use lib.Pow.{pow-pos, pow-lt, shl-exact}
-use lib.Seq.{ext-getD, getD-set-same, getD-set-other}
+use lib.Seq.{getD-set-same, getD-set-other}
 use borrow.Author.Tests.{eq-eqb, ne-eqb}
 use Rattle.lane.specs.Bit.{set?, bit, _⊕_}
 use Rattle.lane.proofs.Bits.{bit-zero, bit-xor, bit-and, bit-ext-below, xor-assoc, ⊕-zero}
 use Rattle.lane.proofs.Rows.{power-digit, power-apart}
-use Rattle.ground.specs.Lists.{listOf}
 use Rattle.ground.proofs.Lists.{length-listOf, getD-listOf, list-is, listOf-same}
 use Rattle.block.specs.Words.{word}
 use Rattle.block.specs.Inner.{sumAt, rowNamed, flippedIn}
@@ -50,7 +49,9 @@ clear-less w i h l e =
     let p = pow-lt {i = i} {j = 32} l in
     let a : bitAnd w (2 ^ i) ≡ 2 ^ i =
     bit-ext-below 32 (bitAnd w (2 ^ i)) (2 ^ i) (and-lt 32 w (2 ^ i) h p) p
-    (λ k b. bit-and k w (2 ^ i) ∙ by-cases (ℕ-discrete k i) (λ q. rw q (ap (λ (x : Bool). x && bit i (2 ^ i)) e)) (λ ne. rw (power-apart k i ne) (and-false (bit k w)))) in
+    (λ k b.
+    bit-and k w (2 ^ i)
+    ∙ by-cases (ℕ-discrete k i) (λ q. rw q (ap (λ (x : Bool). x && bit i (2 ^ i)) e)) (λ ne. rw (power-apart k i ne) (and-false (bit k w)))) in
     omega (arith, xor-add-and w (2 ^ i), pow-pos i)
   where
     and-false : (b : Bool) → b && false ≡ false
@@ -76,7 +77,9 @@ module _ (last : ℕ) (digits block : List ℕ) where
   unfolding flippedIn
   flipped-same f g e =
       listOf-same (length block) _ _
-      (λ j h. ap (bitXor (getD block j 0)) (number-same 32 (here f j) (here g j) (λ i l. ap (λ (b : Bool). b && eqb (suc j) (rowNamed last (sumAt digits i))) (e i l))))
+      (λ j h.
+      ap (bitXor (getD block j 0))
+      (number-same 32 (here f j) (here g j) (λ i l. ap (λ (b : Bool). b && eqb (suc j) (rowNamed last (sumAt digits i))) (e i l))))
 
   pub flipped-none : block ≡ flippedIn last digits (λ i. false) block
   unfolding flippedIn

@@ -57,7 +57,10 @@ module _ (shape : Shape) (block : List ℕ) where
 
   pub sums-are : (stored : List ℕ) → stored ≡ sums
       → (_≡_ {A = Sums}
-      record { digits = getD stored 0 0 ∷ getD stored 1 0 ∷ getD stored 2 0 ∷ getD stored 3 0 ∷ getD stored 4 0 ∷ getD stored 5 0 ∷ getD stored 6 0 ∷ []; parity = bitXor (getD stored 0 0) (getD stored 7 0) }
+      record {
+        digits = getD stored 0 0 ∷ getD stored 1 0 ∷ getD stored 2 0 ∷ getD stored 3 0 ∷ getD stored 4 0 ∷ getD stored 5 0 ∷ getD stored 6 0 ∷ [];
+        parity = bitXor (getD stored 0 0) (getD stored 7 0);
+      }
       (sumsOf shape block))
   unfolding listOf
   sums-are stored e = rw e (ap (λ (p : ℕ). record { digits = digits; parity = p }) (parity-is shape block))

@@ -96,8 +96,9 @@ module _ (m : ℕ) (f : Lane) where
   unfolding decision
   by-case false zero o e = record { sum-zero = e; even = o }
   by-case false (suc s) o e = λ g v h. ⊎-elim (λ c. omega arith) (λ c. true≢false (sym (c .0) ∙ o)) (near-valid g v h)
-  by-case true zero o e = (omega arith, le-refl (suc m), record { sum-zero = flip-last m f ∙ e; even = odd-then-even (suc m) (omega arith) (le-refl (suc m)) o })
+  by-case true zero o e =
+      (omega arith, omega arith, record { sum-zero = flip-last m f ∙ e; even = odd-then-even (suc m) (omega arith) (le-refl (suc m)) o })
   by-case true (suc s) o e = by-row s (leb (suc s) m) refl o e
 
   pub decided : Right m f (decide m f)
-  decided = by-case (odd (suc m) f) (sum m f) refl refl
+  decided = by-case _ _ (cc) (cc)

@@ -14,9 +14,9 @@ use Rattle.lane.specs.Lane.{Lane, sum, count, odd, diff, Valid}
 use Rattle.lane.specs.Rows.{DataRow}
 use Rattle.lane.specs.Encoded.{named, summed, encoded}
 use Rattle.lane.proofs.Bits.{bit-xor, bit-zero, bit-one, bit-high, bit-ext-below, ⊕-zero}
-use Rattle.lane.proofs.Linear.{sum-diff, odd-diff, odd-suc, valid-diff, valid-same}
+use Rattle.lane.proofs.Linear.{sum-diff, odd-diff, odd-suc, sum-same, count-same, valid-diff}
 use Rattle.lane.proofs.Distance.{⊕-same}
-use Rattle.lane.proofs.Decided.{only-within, flip-last, flip-odd}
+use Rattle.lane.proofs.Decided.{only-within}
 use Rattle.lane.proofs.Mended.{⊕-self, sum-empty, count-empty}
 use Rattle.lane.proofs.Rows.{either, split-below, power-digit, power-other, power-apart}
 
@@ -27,6 +27,12 @@ and-false false = refl
 and-true : (a : Bool) → a && true ≡ a
 and-true true = refl
 and-true false = refl
+
+twice : (a b : Bool) → a ⊕ (b ⊕ (a ⊕ b)) ≡ false
+twice true true = refl
+twice true false = refl
+twice false true = refl
+twice false false = refl
 
 pub pick-bit : (i : ℕ) (b : Bool) (w : ℕ) → bit i (pick b w) ≡ b && bit i w
 pick-bit i true w = refl
@@ -50,7 +56,11 @@ module _ (m : ℕ) (d : Lane) (quiet : (p : ℕ) → DataRow m p → d p ≡ fal
       ⊎-elim
       (λ t.
       ap (λ (x : Bool). x && bit k (suc n))
-      (quiet (suc n) (record { first = omega arith; last = h; no-power = λ l e. ne (e ∙ ap (λ (x : ℕ). 2 ^ x) (sym (power-other k l (sym (ap (bit k) e) ∙ t)))) })))
+      (quiet (suc n) (record {
+        first = omega arith;
+        last = h;
+        no-power = λ l e. ne (e ∙ ap (λ (x : ℕ). 2 ^ x) (sym (power-other k l (sym (ap (bit k) e) ∙ t))));
+      })))
       (λ t. ap (λ (x : Bool). d (suc n) && x) t ∙ and-false (d (suc n)))
       (either (bit k (suc n)))
 
@@ -150,24 +160,26 @@ module _ (k m : ℕ) (f : Lane) (hm : m < 2 ^ k) where
       (bit-ext-below k (sum m (named k (sum m f))) (sum m f) (sum-lt k m (named k (sum m f)) hm) (sum-lt k m f hm) (low m (sum m f) inside k))
       ∙ xor-self (sum m f)
 
-  last-valid : (o : Bool) → odd (suc m) (summed k m f) ≡ o → Valid m (λ p. summed k m f p ⊕ (o && eqb p (suc m)))
-  last-valid false e = valid-same m (summed k m f) _ (λ j l. sym (⊕-zero (summed k m f (suc j)))) (record { sum-zero = summed-sum; even = e })
-  last-valid true e =
-      record {
-        sum-zero = flip-last m (summed k m f) ∙ summed-sum;
-        even = flip-odd m (suc m) (summed k m f) (omega arith) (le-refl (suc m)) ∙ ap (λ (b : Bool). b ⊕ true) e;
-      }
+  -- the rows before the last are as summed, and the last is changed where the parity is odd
+  before-last : (p : ℕ) → p ≤ m → encoded k m f p ≡ summed k m f p
+  before-last p h = rw (ne-eqb p (suc m) (λ e. omega arith), and-false, ⊕-zero)
+
+  last-row : encoded k m f (suc m) ≡ summed k m f (suc m) ⊕ odd (suc m) (summed k m f)
+  last-row = rw (eq-eqb (suc m) (suc m) refl, and-true)
 
   pub encoded-valid : Valid m (encoded k m f)
-  encoded-valid = last-valid (odd (suc m) (summed k m f)) refl
+  encoded-valid =
+      record {
+        sum-zero = sum-same m (encoded k m f) (summed k m f) (λ j l. before-last (suc j) l) ∙ summed-sum;
+        even = odd-suc m (encoded k m f)
+            ∙ ap₂ _⊕_ (ap (bit 0) (count-same m (encoded k m f) (summed k m f) (λ j l. before-last (suc j) l)))
+            (last-row ∙ ap (λ (b : Bool). summed k m f (suc m) ⊕ b) (odd-suc m (summed k m f)))
+            ∙ twice (odd m (summed k m f)) (summed k m f (suc m));
+      }
 
   -- the data rows are as they were
   pub encoded-data : (p : ℕ) → DataRow m p → encoded k m f p ≡ f p
-  encoded-data p d =
-      let l = d .last in
-      ap₂ _⊕_ (ap (λ (b : Bool). f p ⊕ b) (named-data m k (sum m f) p d) ∙ ⊕-zero (f p))
-      (ap (λ (b : Bool). odd (suc m) (summed k m f) && b) (ne-eqb p (suc m) (λ e. omega arith)) ∙ and-false (odd (suc m) (summed k m f)))
-      ∙ ⊕-zero (f p)
+  encoded-data p d = before-last p (d .last) ∙ ap (λ (b : Bool). f p ⊕ b) (named-data m k (sum m f) p d) ∙ ⊕-zero (f p)
 
   -- and it is the only valid lane with them
   pub encoded-only : (g : Lane) → Valid m g → ((p : ℕ) → DataRow m p → g p ≡ f p) → (j : ℕ) → j < suc m → g (suc j) ≡ encoded k m f (suc j)

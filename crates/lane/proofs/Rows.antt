@@ -125,7 +125,8 @@ module _ (test : ℕ → Bool) where
       ⊎-elim
       (λ q.
       let t : test (suc n) ≡ true = ap test (sym q) ∙ e in
-      rw t (length (rowsWhere test n), rw (length-append (rowsWhere test n) (suc n ∷ [])) (omega arith), getD-append-seam (rowsWhere test n) (suc n) [] 0 ∙ sym q))
+      let list = rowsWhere test n in
+      rw t (length list, rw (length-append list (suc n ∷ [])) (omega arith), getD-append-seam list (suc n) [] 0 ∙ sym q))
       (λ q.
       let r = row-there n p l (omega arith) e in (
         r .0,

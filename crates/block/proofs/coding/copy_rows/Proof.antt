@@ -23,10 +23,15 @@ Inv-loop rows block buffer₀ n k₀ buffer k =
 abbrev μ-loop : tie.MeasureT-loop
 μ-loop rows block buffer₀ n k₀ buffer k = n - k
 
--- the row is there
-there : (c : tie.In-loop Inv-loop μ-loop)
-    → (1 ≤ getD (c .before .before .before .before .before .args .rows .now) (c .before .loop .k) 0) × (getD (c .before .before .before .before .before .args .rows .now) (c .before .loop .k) 0 ≤ 72)
-there c = c .before .before .before .before .before .pre (c .before .loop .k) (omega (arith, c .loop-test .taken, c .before .loop .inv .1))
+-- the start, and the row that is copied
+abbrev start : tie.After-least Inv-loop μ-loop → tie.Start Inv-loop μ-loop
+start c = c .before .before .before
+
+abbrev copied : tie.In-loop Inv-loop μ-loop → ℕ
+copied c = getD (start (c .before .before) .args .rows .now) (c .before .loop .k) 0
+
+there : (c : tie.In-loop Inv-loop μ-loop) → (1 ≤ copied c) × (copied c ≤ 72)
+there c = start (c .before .before) .pre (c .before .loop .k) (omega (arith, c .loop-test .taken, c .before .loop .inv .1))
 
 least-requires : tie.Need-least-requires Inv-loop μ-loop
 least-requires c κs = search needs
@@ -65,14 +70,13 @@ loop-less c = search needs
 loop-again : tie.Need-loop-again Inv-loop μ-loop
 unfolding stores
 loop-again c =
-    let start = c .before .before .before .before .before .before .before in
-    let k = c .before .before .before .loop .k in
-    let inv = c .before .before .before .loop .inv in (
+    let in-loop = c .before .before in
+    let inv = in-loop .before .loop .inv in (
       omega arith,
       inv .1,
       inv .2,
       inv .3,
-      rw (add-one, row-at (getD (start .args .rows .now) k 0) (start .args .block .now) (there (c .before .before) .0), inv .4),
+      rw (add-one, row-at (copied in-loop) (start (in-loop .before .before) .args .block .now) (there in-loop .0), inv .4),
       simp length-set (inv .5),
     )
 
@@ -82,14 +86,14 @@ same-length c = c .before .loop .inv .5
 returns : tie.Need-returns Inv-loop μ-loop
 unfolding copiedInto
 returns c =
-    let start = c .before .before .before .before .before in
+    let args = start (c .before .before) .args in
     let inv = c .before .loop .inv in
-    let buffer = start .args .buffer .now in
-    let v : ℕ → ℕ = λ j. row (getD (start .args .rows .now) j 0) (start .args .block .now) in
+    let buffer = args .buffer .now in
+    let v : ℕ → ℕ = λ j. row (getD (args .rows .now) j 0) (args .block .now) in
     let e : c .before .loop .k ≡ c .before .before .least .result = omega arith in
     inv .4
     ∙ ap (stores buffer (λ j. j) v) e
-    ∙ stores-more buffer (λ j. j) v (c .before .before .least .result) (length (start .args .rows .now)) (inv .1)
+    ∙ stores-more buffer (λ j. j) v (c .before .before .least .result) (length (args .rows .now)) (inv .1)
     (λ k h g. set-out (stores buffer (λ j. j) v k) k (v k) (rw length-stores (omega (arith, inv .3 (omega arith)))))
 
 pub copy-rows-spec : {M : Type 1} → statement M

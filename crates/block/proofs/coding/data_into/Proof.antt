@@ -1,6 +1,8 @@
 -- `block::coding::data_into` meets its contract: its tables are, by computing, the data rows of each shape. Assumes nothing.
 use mathlib.Core.Bool.{not}
-use mathlib.Core.Path.{sym, ap, _∙_}
+use Prim.Native.Nat.{ℕ}
+use mathlib.Core.List.{List}
+use mathlib.Core.Path.{_≡_, sym, ap, _∙_}
 use native.Mathlib.Omega.{arith}
 use borrow.Author.Needs.{needs}
 use Rattle.lane.specs.Rows.{power?, rowsWhere}
@@ -10,6 +12,17 @@ use Rattle.block.specs.Inner.{copiedInto}
 use Rattle.block.proofs.Listed.{rows-listed}
 use Rattle.block.proofs.coding.data_into.Statement.{statement}
 use Rattle.block.proofs.coding.data_into.Tie as tie
+
+-- the start, from where either shape is told
+abbrev one : tie.After-enum-told → tie.Start
+one c = c .before .before .before
+
+abbrev two : tie.After-enum-told2 → tie.Start
+two c = c .before .before .before
+
+-- the data words of the shape that is told
+of-shape : {shape kind : Shape} → shape ≡ kind → (block buffer copied : List ℕ) → copied ≡ dataInto kind block buffer → copied ≡ dataInto shape block buffer
+of-shape told block buffer copied e = e ∙ ap (λ (s : Shape). dataInto s block buffer) (sym told)
 
 enum-told : tie.Need-enum-told
 enum-told c = search needs
@@ -37,8 +50,9 @@ same-length c = search needs
 returns : tie.Need-returns
 unfolding dataInto copiedInto rowsWhere power?
 returns c =
-    let start = c .before .before .before .before .before .before .before .before in
-    c .before .before .copy-rows .ensures ∙ ap (λ (s : Shape). dataInto s (start .args .block .now) (start .args .buffer .now)) (sym (c .before .before .before .before .before .enum-told .given .1))
+    let told = c .before .before .before .before .before in
+    let args = one told .args in
+    of-shape (told .enum-told .given .1) (args .block .now) (args .buffer .now) _ (c .before .before .copy-rows .ensures)
 
 same-length-2 : tie.Need-same-length-2
 same-length-2 c = search needs
@@ -46,8 +60,9 @@ same-length-2 c = search needs
 returns-2 : tie.Need-returns-2
 unfolding dataInto copiedInto rowsWhere power?
 returns-2 c =
-    let start = c .before .before .before .before .before .before .before .before in
-    c .before .before .copy-rows2 .ensures ∙ ap (λ (s : Shape). dataInto s (start .args .block .now) (start .args .buffer .now)) (sym (c .before .before .before .before .before .enum-told2 .given .1))
+    let told = c .before .before .before .before .before in
+    let args = two told .args in
+    of-shape (told .enum-told2 .given .1) (args .block .now) (args .buffer .now) _ (c .before .before .copy-rows2 .ensures)
 
 pub data-into-spec : {M : Type 1} → statement M
 data-into-spec =

@@ -16,6 +16,16 @@ use Rattle.block.proofs.Encoding.{built}
 use Rattle.block.proofs.coding.encode.Statement.{statement}
 use Rattle.block.proofs.coding.encode.Tie as tie
 
+-- the start, from where the sums are known, and that place from where the rows are
+abbrev start : tie.After-lane-sums → tie.Start
+start c = c .before .before .before .before
+
+abbrev xored : tie.After-rows-before → tie.After-xor-all
+xored c = c .before .before .before .before .before
+
+abbrev sums : tie.After-rows-before → tie.After-lane-sums
+sums c = xored c .before .before .before
+
 place-data-requires : tie.Need-place-data-requires
 place-data-requires c κs = search needs
 
@@ -36,28 +46,30 @@ rows-before-requires c κs = search needs
 
 module _ (c : tie.After-rows-before) where
   abbrev shape : Shape
-  shape = c .before .before .before .before .before .before .before .before .before .before .before .before .args .shape
+  shape = start (sums c) .args .shape
 
   abbrev list : List ℕ
-  list = c .before .before .before .before .before .before .before .before .before .before .before .before .args .list .now
+  list = start (sums c) .args .list .now
 
   abbrev placed : List ℕ
   placed = dataBlock shape list
 
-  abbrev sums : tie.After-lane-sums
-  sums = c .before .before .before .before .before .before .before .before
+  placed-is : sums c .before .before .place-data .result ≡ placed
+  placed-is = sums c .before .before .place-data .ensures
 
-  placed-is : sums .before .before .place-data .result ≡ placed
-  placed-is = sums .before .before .place-data .ensures
-
-  sums-are : sums .lane-sums .result ≡ sumsOf shape placed
-  sums-are = sums .lane-sums .ensures ∙ ap (sumsOf shape) placed-is
+  sums-are : sums c .lane-sums .result ≡ sumsOf shape placed
+  sums-are = sums c .lane-sums .ensures ∙ ap (sumsOf shape) placed-is
 
   checks-are : c .before .set-checks .last .0 ≡ withChecks (sumsOf shape placed .digits) placed
   checks-are = c .before .set-checks .ensures ∙ ap₂ (λ (s : Sums) (b : List ℕ). withChecks (s .digits) b) sums-are placed-is
 
+  -- the word of the last row
+  last-is : bitXor (sums c .lane-sums .result .parity) (xored c .xor-all .result)
+      ≡ bitXor (sumsOf shape placed .parity) (xorAll 7 (sumsOf shape placed .digits))
+  last-is = ap₂ bitXor (ap (λ (s : Sums). s .parity) sums-are) (xored c .xor-all .ensures ∙ ap (λ (s : Sums). xorAll 7 (s .digits)) sums-are)
+
   words-fit : (k : ℕ) → getD list k 0 < 2 ^ 32
-  words-fit k = omega (arith, sums .before .before .before .shared-slice-known .given k)
+  words-fit k = omega (arith, sums c .before .before .before .shared-slice-known .given k)
 
 mul-block : tie.Need-mul-block
 mul-block c = omega (arith, c .rows-before .ensures, before-lt (shape c))
@@ -67,9 +79,8 @@ array-write-block c = omega (arith, c .rows-before .ensures, before-lt (shape c)
 
 returns : tie.Need-returns
 returns c =
-    ap₂ (λ (w : List ℕ) (k : ℕ). set w k (bitXor (sums c .lane-sums .result .parity) (c .before .before .before .before .before .xor-all .result))) (checks-are c) (c .rows-before .ensures)
-    ∙ ap₂ (λ (p a : ℕ). set (withChecks (sumsOf (shape c) (placed c) .digits) (placed c)) (before (shape c)) (bitXor p a))
-    (ap (λ (s : Sums). s .parity) (sums-are c)) (c .before .before .before .before .before .xor-all .ensures ∙ ap (λ (s : Sums). xorAll 7 (s .digits)) (sums-are c))
+    ap₂ (λ (w : List ℕ) (k : ℕ). set w k (bitXor (sums c .lane-sums .result .parity) (xored c .xor-all .result))) (checks-are c) (c .rows-before .ensures)
+    ∙ ap (set (withChecks (sumsOf (shape c) (placed c) .digits) (placed c)) (before (shape c))) (last-is c)
     ∙ built (shape c) (list c) (λ k. words-fit c k)
 
 pub encode-spec : {M : Type 1} → statement M

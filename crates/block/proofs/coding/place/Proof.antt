@@ -23,11 +23,15 @@ Inv-loop rows list n block₀ k₀ block k =
 abbrev μ-loop : tie.MeasureT-loop
 μ-loop rows list n block₀ k₀ block k = n - k
 
--- the row is there
-there : (c : tie.In-loop Inv-loop μ-loop)
-    → (1 ≤ getD (c .before .before .before .before .before .args .rows .now) (c .before .loop .k) 0)
-    × (getD (c .before .before .before .before .before .args .rows .now) (c .before .loop .k) 0 ≤ 72)
-there c = c .before .before .before .before .before .pre .0 (c .before .loop .k) (omega (arith, c .loop-test .taken, c .before .loop .inv .1))
+-- the start, and the row that is set
+abbrev start : tie.After-least Inv-loop μ-loop → tie.Start Inv-loop μ-loop
+start c = c .before .before .before
+
+abbrev put : tie.In-loop Inv-loop μ-loop → ℕ
+put c = getD (start (c .before .before) .args .rows .now) (c .before .loop .k) 0
+
+there : (c : tie.In-loop Inv-loop μ-loop) → (1 ≤ put c) × (put c ≤ 72)
+there c = start (c .before .before) .pre .0 (c .before .loop .k) (omega (arith, c .loop-test .taken, c .before .loop .inv .1))
 
 least-requires : tie.Need-least-requires Inv-loop μ-loop
 least-requires c κs = search needs
@@ -69,7 +73,8 @@ loop-again c = let inv = c .before .before .before .loop .inv in (omega arith, i
 
 -- words that are missing are zero, as their rows are already
 missing : (rows list : List ℕ) (n : ℕ) → Listed 72 rows → Rising rows → n ≤ length rows → (n < length rows → n ≡ length list)
-    → stores (replicate 72 0) (λ j. getD rows j 0 - 1) (λ j. getD list j 0) n ≡ stores (replicate 72 0) (λ j. getD rows j 0 - 1) (λ j. getD list j 0) (length rows)
+    → stores (replicate 72 0) (λ j. getD rows j 0 - 1) (λ j. getD list j 0) n
+    ≡ stores (replicate 72 0) (λ j. getD rows j 0 - 1) (λ j. getD list j 0) (length rows)
 missing rows list n listed rising fits all =
     stores-more (replicate 72 0) (λ j. getD rows j 0 - 1) (λ j. getD list j 0) n (length rows) fits
     (λ k h g.
@@ -82,12 +87,13 @@ missing rows list n listed rising fits all =
 
 returns : tie.Need-returns Inv-loop μ-loop
 returns c =
-    let start = c .before .before .before .before .before in
+    let args = start (c .before .before) .args in
+    let pre = start (c .before .before) .pre in
     let inv = c .before .loop .inv in
     let e : c .before .loop .k ≡ c .before .before .least .result = omega arith in
     inv .4
-    ∙ ap (stores (replicate 72 0) (λ j. getD (start .args .rows .now) j 0 - 1) (λ j. getD (start .args .list .now) j 0)) e
-    ∙ missing (start .args .rows .now) (start .args .list .now) _ (start .pre .0) (start .pre .1) (inv .1) (inv .3)
+    ∙ ap (stores (replicate 72 0) (λ j. getD (args .rows .now) j 0 - 1) (λ j. getD (args .list .now) j 0)) e
+    ∙ missing (args .rows .now) (args .list .now) _ (pre .0) (pre .1) (inv .1) (inv .3)
 
 pub place-spec : {M : Type 1} → statement M
 place-spec =

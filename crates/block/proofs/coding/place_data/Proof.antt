@@ -1,6 +1,8 @@
 -- `block::coding::place_data` meets its contract: its tables are, by computing, the data rows of each shape. Assumes nothing.
 use mathlib.Core.Bool.{not}
-use mathlib.Core.Path.{sym, ap, _∙_}
+use Prim.Native.Nat.{ℕ}
+use mathlib.Core.List.{List}
+use mathlib.Core.Path.{_≡_, sym, ap, _∙_}
 use native.Mathlib.Omega.{arith}
 use borrow.Author.Needs.{needs}
 use Rattle.lane.specs.Rows.{power?, rowsWhere}
@@ -9,6 +11,17 @@ use Rattle.block.specs.Block.{dataBlock}
 use Rattle.block.proofs.Listed.{rows-listed, rows-rising}
 use Rattle.block.proofs.coding.place_data.Statement.{statement}
 use Rattle.block.proofs.coding.place_data.Tie as tie
+
+-- the start, from where either shape is told
+abbrev one : tie.After-enum-told → tie.Start
+one c = c .before .before .before
+
+abbrev two : tie.After-enum-told2 → tie.Start
+two c = c .before .before .before
+
+-- the data block of the shape that is told
+of-shape : {shape kind : Shape} → shape ≡ kind → (list placed : List ℕ) → placed ≡ dataBlock kind list → placed ≡ dataBlock shape list
+of-shape told list placed e = e ∙ ap (λ (s : Shape). dataBlock s list) (sym told)
 
 enum-told : tie.Need-enum-told
 enum-told c = search needs
@@ -32,11 +45,11 @@ place-requires-2 c κs = (rows-listed (λ p. not (power? 7 p)) 71 72 (omega arit
 
 returns : tie.Need-returns
 unfolding dataBlock rowsWhere power?
-returns c = c .place .ensures ∙ ap (λ (s : Shape). dataBlock s (c .before .before .before .before .before .args .list .now)) (sym (c .before .before .enum-told .given .1))
+returns c = of-shape (c .before .before .enum-told .given .1) (one (c .before .before) .args .list .now) _ (c .place .ensures)
 
 returns-2 : tie.Need-returns-2
 unfolding dataBlock rowsWhere power?
-returns-2 c = c .place2 .ensures ∙ ap (λ (s : Shape). dataBlock s (c .before .before .before .before .before .args .list .now)) (sym (c .before .before .enum-told2 .given .1))
+returns-2 c = of-shape (c .before .before .enum-told2 .given .1) (two (c .before .before) .args .list .now) _ (c .place2 .ensures)
 
 pub place-data-spec : {M : Type 1} → statement M
 place-data-spec =

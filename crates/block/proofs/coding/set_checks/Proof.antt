@@ -1,5 +1,5 @@
 -- `block::coding::set_checks` meets its contract. The loop's invariant: the check rows passed are set. Assumes nothing.
-use Prim.Native.Nat.{ℕ, _≤_, _-_, _^_}
+use Prim.Native.Nat.{_≤_, _-_, _^_}
 use mathlib.Core.Path.{_≡_, refl, ap, _∙_}
 use native.Mathlib.Nat.{pow-suc}
 use native.Mathlib.Numerals.{add-one}
@@ -60,8 +60,9 @@ loop-again c = rw add-one (omega arith, rw (c .before .before .loop .inv .1, c .
 returns : tie.Need-returns Inv-loop μ-loop
 unfolding withChecks
 returns c =
+    let args = c .before .before .args in
     let e : c .before .loop .k ≡ 7 = omega arith in
-    c .before .loop .inv .1 ∙ ap (λ (k : ℕ). stores (c .before .before .args .block .now) (λ j. 2 ^ j - 1) (λ j. getD (c .before .before .args .digits .now) j 0) k) e
+    c .before .loop .inv .1 ∙ ap (stores (args .block .now) (λ j. 2 ^ j - 1) (λ j. getD (args .digits .now) j 0)) e
 
 pub set-checks-spec : {M : Type 1} → statement M
 set-checks-spec =

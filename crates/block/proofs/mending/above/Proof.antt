@@ -1,4 +1,5 @@
--- `block::mending::above` meets its contract. The loop's invariant: the lanes are those of the digits passed, and the rest of `top` is what is left of it. Assumes nothing.
+-- `block::mending::above` meets its contract.
+-- The loop's invariant: the lanes are those of the digits passed, and the rest of `top` is what is left of it. Assumes nothing.
 use Prim.Native.Nat.{ℕ, _≤_, _-_, _/_, _%_, _^_}
 use mathlib.Core.Path.{_≡_, refl, sym, ap, _∙_}
 use mathlib.Core.Logic.{⊎-elim}

@@ -18,17 +18,25 @@ Inv-loop block₀ digits parity last left₀ block left =
 abbrev μ-loop : tie.MeasureT-loop
 μ-loop block₀ digits parity last left₀ block left = left
 
+-- the start
+abbrev start : tie.In-loop Inv-loop μ-loop → tie.Start Inv-loop μ-loop
+start c = c .before .before
+
 -- the lowest lane that is left
-low : (c : tie.In-loop Inv-loop μ-loop) → (trailingZeros 32 (c .before .loop .left) < 32) × (bit (trailingZeros 32 (c .before .loop .left)) (c .before .loop .left) ≡ true)
+abbrev lowest : tie.In-loop Inv-loop μ-loop → ℕ
+lowest c = trailingZeros 32 (c .before .loop .left)
+
+low : (c : tie.In-loop Inv-loop μ-loop) → (lowest c < 32) × (bit (lowest c) (c .before .loop .left) ≡ true)
 low c = trailing-set 32 (c .before .loop .left) (omega arith) (c .loop-test .taken)
 
 -- the row that its sum names is there
 there : (c : tie.After-row-named Inv-loop μ-loop) → (1 ≤ c .row-named .result) × (c .row-named .result ≤ 72)
 there c =
-    let i = trailingZeros 32 (c .before .before .loop .left) in
+    let s = start (c .before) in
+    let i = lowest (c .before) in
     let l = low (c .before) in
-    let h = c .before .before .before .pre .2 i (l .0) (c .before .before .loop .inv .1 i (l .1)) in
-    rw (c .row-named .ensures) (named-there (c .before .before .before .args .last) (sumAt (c .before .before .before .args .digits .now) i) (c .before .before .before .pre .0) (c .before .before .before .pre .1) h)
+    let h = s .pre .2 i (l .0) (c .before .before .loop .inv .1 i (l .1)) in
+    rw (c .row-named .ensures) (named-there (s .args .last) (sumAt (s .args .digits .now) i) (s .pre .0) (s .pre .1) h)
 
 loop-holds : tie.Need-loop-holds Inv-loop μ-loop
 loop-holds c = (none-done (c .args .last) (c .args .digits .now) (c .args .block .now) (c .args .parity), λ i e. e, le-refl _)
@@ -54,28 +62,30 @@ element-write-block c = omega (arith, there (c .before))
 loop-less : tie.Need-loop-less Inv-loop μ-loop
 loop-less c =
     let left = c .before .before .before .loop .left in
+    let i = lowest (c .before .before) in
     let l = low (c .before .before) in
-    rw (one-lane (trailingZeros 32 left) (l .0)) (clear-less left (trailingZeros 32 left) (omega arith) (l .0) (l .1))
+    rw (one-lane i (l .0)) (clear-less left i (omega arith) (l .0) (l .1))
 
 loop-again : tie.Need-loop-again Inv-loop μ-loop
 loop-again c =
-    let start = c .before .before .before .before in
+    let args = start (c .before .before) .args in
     let left = c .before .before .before .loop .left in
     let inv = c .before .before .before .loop .inv in
+    let i = lowest (c .before .before) in
     let l = low (c .before .before) in
     let t = there (c .before) in
-    rw (one-lane (trailingZeros 32 left) (l .0), inv .0) (
-      next-done (start .args .last) (start .args .digits .now) (start .args .block .now) (start .args .parity) left (trailingZeros 32 left) (l .0) (l .1) (inv .1)
-          (c .before .row-named .result) (c .before .row-named .ensures) (t .0),
-      next-within (start .args .last) (start .args .digits .now) (start .args .block .now) (start .args .parity) left (trailingZeros 32 left) (l .0) (l .1) (inv .1),
-      omega (arith, inv .2, clear-less left (trailingZeros 32 left) (omega arith) (l .0) (l .1)),
+    rw (one-lane i (l .0), inv .0) (
+      next-done (args .last) (args .digits .now) (args .block .now) (args .parity) left i (l .0) (l .1) (inv .1) (c .before .row-named .result)
+          (c .before .row-named .ensures) (t .0),
+      next-within (args .last) (args .digits .now) (args .block .now) (args .parity) left i (l .0) (l .1) (inv .1),
+      omega (arith, inv .2, clear-less left i (omega arith) (l .0) (l .1)),
     )
 
 returns : tie.Need-returns Inv-loop μ-loop
 returns c =
-    let start = c .before .before in
-    c .before .loop .inv .0 ∙ ap (doneBut (start .args .last) (start .args .digits .now) (start .args .block .now) (start .args .parity)) (c .loop-test .left)
-    ∙ all-done (start .args .last) (start .args .digits .now) (start .args .block .now) (start .args .parity)
+    let args = c .before .before .args in
+    c .before .loop .inv .0 ∙ ap (doneBut (args .last) (args .digits .now) (args .block .now) (args .parity)) (c .loop-test .left)
+    ∙ all-done (args .last) (args .digits .now) (args .block .now) (args .parity)
 
 pub flip-named-spec : {M : Type 1} → statement M
 flip-named-spec =

@@ -1,5 +1,6 @@
 -- `block::mending::row_named` meets its contract. The loop's invariant: the sum is that of the digits passed. Assumes nothing.
 use Prim.Native.Nat.{ℕ, _≤_, _-_, _^_}
+use mathlib.Core.Bool.{Bool}
 use mathlib.Core.Path.{_≡_, refl, sym, ap, _∙_}
 use mathlib.Core.Logic.{⊎-elim}
 use native.Mathlib.Nat.{pow-suc}
@@ -22,6 +23,13 @@ Inv-loop digits i last sum₀ weight₀ k₀ sum weight k = (k ≤ 7) × (sum �
 abbrev μ-loop : tie.MeasureT-loop
 μ-loop digits i last sum₀ weight₀ k₀ sum weight k = 7 - k
 
+-- the start, and the digits of the lane's sum
+abbrev start : tie.In-loop Inv-loop μ-loop → tie.Start Inv-loop μ-loop
+start c = c .before .before
+
+abbrev digit : tie.Start Inv-loop μ-loop → ℕ → Bool
+digit c j = bit (c .args .i) (getD (c .args .digits .now) j 0)
+
 -- the weight of a digit is at most 64
 small : (c : tie.In-loop Inv-loop μ-loop) → 2 ^ c .before .loop .k ≤ 64
 small c = pow-mono {i = c .before .loop .k} {j = 6} (omega arith)
@@ -42,7 +50,7 @@ shr-if1 c = search needs
 add-sum : tie.Need-add-sum Inv-loop μ-loop
 add-sum c =
     let h = small (c .before .before) in
-    omega (arith, number-lt (c .before .before .before .loop .k) (λ j. bit (c .before .before .before .before .args .i) (getD (c .before .before .before .before .args .digits .now) j 0)))
+    omega (arith, number-lt (c .before .before .before .loop .k) (digit (start (c .before .before))))
 
 mul-weight : tie.Need-mul-weight Inv-loop μ-loop
 mul-weight c = let h = small (c .before .before) in omega arith
@@ -56,30 +64,31 @@ loop-less c = search needs
 loop-again : tie.Need-loop-again Inv-loop μ-loop
 unfolding number
 loop-again c =
-    let words = c .before .before .before .before .args .digits .now in
-    let i = c .before .before .before .before .args .i in
-    let k = c .before .before .before .loop .k in (
+    let args = start (c .before .before) .args in
+    let loop = c .before .before .before .loop in
+    let word = getD (args .digits .now) (loop .k) 0 in (
       omega arith,
       rw add-one
-          (⊎-elim
-          (λ w. rw (w .1, digit-one i (getD words k 0) (w .0 .taken), c .before .before .before .loop .inv .1, c .before .before .before .loop .inv .2))
-          (λ w. rw (w .1, digit-zero i (getD words k 0) (w .0 .left), c .before .before .before .loop .inv .1) (omega arith))
+          (⊎-elim (λ w. rw (w .1, digit-one (args .i) word (w .0 .taken), loop .inv .1, loop .inv .2))
+          (λ w. rw (w .1, digit-zero (args .i) word (w .0 .left), loop .inv .1) (omega arith))
           (c .if1 .came)),
       rw (add-one, pow-suc) (omega arith),
     )
 
-whole : (c : tie.After-loop Inv-loop μ-loop) → c .before .loop .sum ≡ sumAt (c .before .before .args .digits .now) (c .before .before .args .i)
+-- the lane's sum
+abbrev named : tie.After-loop Inv-loop μ-loop → ℕ
+named c = sumAt (c .before .before .args .digits .now) (c .before .before .args .i)
+
+whole : (c : tie.After-loop Inv-loop μ-loop) → c .before .loop .sum ≡ named c
 whole c =
     let e : c .before .loop .k ≡ 7 = omega arith in
-    c .before .loop .inv .1 ∙ ap (λ (k : ℕ). number k (λ j. bit (c .before .before .args .i) (getD (c .before .before .args .digits .now) j 0))) e
+    c .before .loop .inv .1 ∙ ap (λ (k : ℕ). number k (digit (c .before .before))) e
 
 returns : tie.Need-returns Inv-loop μ-loop
-returns c = rw (eq-eqb (sumAt (c .before .before .before .args .digits .now) (c .before .before .before .args .i)) 0 (sym (whole (c .before)) ∙ c .if2 .taken))
+returns c = rw (eq-eqb (named (c .before)) 0 (sym (whole (c .before)) ∙ c .if2 .taken))
 
 returns-2 : tie.Need-returns-2 Inv-loop μ-loop
-returns-2 c =
-    rw (ne-eqb (sumAt (c .before .before .before .args .digits .now) (c .before .before .before .args .i)) 0 (λ e. c .if2 .left (whole (c .before) ∙ e)))
-    (whole (c .before))
+returns-2 c = rw (ne-eqb (named (c .before)) 0 (λ e. c .if2 .left (whole (c .before) ∙ e))) (whole (c .before))
 
 pub row-named-spec : {M : Type 1} → statement M
 row-named-spec =

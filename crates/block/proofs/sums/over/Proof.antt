@@ -19,11 +19,15 @@ Inv-loop words at rows sum₀ k₀ sum k = (k ≤ length rows) × (sum ≡ xorOv
 abbrev μ-loop : tie.MeasureT-loop
 μ-loop words at rows sum₀ k₀ sum k = length rows - k
 
--- the row that is read is there
-there : (c : tie.In-loop Inv-loop μ-loop)
-    → (1 ≤ getD (c .before .before .args .rows .now) (c .before .loop .k) 0)
-    × (getD (c .before .before .args .rows .now) (c .before .loop .k) 0 ≤ length (c .before .before .args .words .now) - c .before .before .args .at)
-there c = c .before .before .pre (c .before .loop .k) (c .loop-test .taken)
+-- the start, and the row that is read
+abbrev start : tie.In-loop Inv-loop μ-loop → tie.Start Inv-loop μ-loop
+start c = c .before .before
+
+abbrev read : tie.In-loop Inv-loop μ-loop → ℕ
+read c = getD (start c .args .rows .now) (c .before .loop .k) 0
+
+there : (c : tie.In-loop Inv-loop μ-loop) → (1 ≤ read c) × (read c ≤ length (start c .args .words .now) - start c .args .at)
+there c = start c .pre (c .before .loop .k) (c .loop-test .taken)
 
 -- where the word of a row stands
 row-from : (p at : ℕ) (words : List ℕ) → 1 ≤ p → getD words (at + (p - 1)) 0 ≡ row p (drop at words)
@@ -59,16 +63,19 @@ loop-less c = search needs
 
 loop-again : tie.Need-loop-again Inv-loop μ-loop
 loop-again c =
-    let list = c .before .before .before .before .args .rows .now in
-    let at = c .before .before .before .before .args .at in
-    let words = c .before .before .before .before .args .words .now in
-    let k = c .before .before .before .loop .k in
-    (omega arith, rw (add-one, c .before .before .before .loop .inv .1, row-from (getD list k 0) at words (there (c .before .before) .0)) (xor-more list k (drop at words) (c .before .before .loop-test .taken)))
+    let in-loop = c .before .before in
+    let args = start in-loop .args in
+    let loop = in-loop .before .loop in (
+      omega arith,
+      rw (add-one, loop .inv .1, row-from (read in-loop) (args .at) (args .words .now) (there in-loop .0))
+          (xor-more (args .rows .now) (loop .k) (drop (args .at) (args .words .now)) (in-loop .loop-test .taken)),
+    )
 
 returns : tie.Need-returns Inv-loop μ-loop
 returns c =
+    let args = c .before .before .args in
     c .before .loop .inv .1
-    ∙ ap (λ (l : List ℕ). xorOver l (drop (c .before .before .args .at) (c .before .before .args .words .now))) (take-all (c .before .loop .k) (c .before .before .args .rows .now) (omega arith))
+    ∙ ap (λ (l : List ℕ). xorOver l (drop (args .at) (args .words .now))) (take-all (c .before .loop .k) (args .rows .now) (omega arith))
 
 pub over-spec : {M : Type 1} → statement M
 over-spec =

@@ -25,7 +25,7 @@ abbrev room-seen : tie.After-report-words-arg2 → tie.Else1
 room-seen c = c .before .before
 
 -- the header names a layout
-header : (c : tie.After-word-count) → headerOf (start (header-read c) .args .bytes .now) ≡ Image (c .before .before .layout .given .0)
+header : (c : tie.After-word-count) → headerOf (start (header-read c) .args .bytes .now) ≡ Image (c .before .before .layout .given .0 .0)
 header c = sym (header-read c .read-header .ensures) ∙ c .before .before .layout .given .1
 
 -- ---- the needs

@@ -14,7 +14,7 @@ use Rattle.layout.proofs.Ladder.{geometry, image-layout}
 use Rattle.store.specs.Answer.{verdictIn}
 use Rattle.store.specs.Visit.{visitAnswer, visitAfter}
 use Rattle.report.specs.declared.Tally.{Tally}
-use Rattle.report.specs.Lines.{blockLine, totalLine, counted}
+use Rattle.report.specs.Lines.{imageLine, blockLine, totalLine, counted}
 use Rattle.report.specs.Report.{verdictAt, imageReport, visitedBelow, blockLines, tallyBelow}
 use Rattle.text.specs.Page.{written, page, writtenAll}
 use Rattle.report.proofs.Counts.{Within, verdict-most, tally-within}
@@ -37,14 +37,17 @@ abbrev μ-loop : tie.MeasureT-loop
 
 -- ---- the points of the walk
 
+abbrev known : tie.At-loop Inv-loop μ-loop → tie.After-blocks2 Inv-loop μ-loop
+known c = c .before .before .before .before .before
+
 abbrev start : tie.At-loop Inv-loop μ-loop → tie.Start Inv-loop μ-loop
-start c = c .before .before .before .before .before .before .before
+start c = known c .before .before .before
 
-abbrev turn : tie.After-verdict-in Inv-loop μ-loop → tie.In-loop Inv-loop μ-loop
-turn c = c .before .before .before .before .before
+abbrev turn : tie.After-visit-accepted Inv-loop μ-loop → tie.In-loop Inv-loop μ-loop
+turn c = c .before .before
 
-abbrev judged : tie.After-slice-known5 Inv-loop μ-loop → tie.After-verdict-in Inv-loop μ-loop
-judged c = c .before .before .before .before
+abbrev judged : tie.After-slice-known5 Inv-loop μ-loop → tie.After-visit-accepted Inv-loop μ-loop
+judged c = c .before .before .before .before .before .before
 
 abbrev ended : tie.After-slice-known6 Inv-loop μ-loop → tie.After-loop Inv-loop μ-loop
 ended c = c .before .before .before .before
@@ -86,18 +89,21 @@ module _ (c : tie.Start Inv-loop μ-loop) where
   within = tally-within (c .args .image .now) (c .args .layout)
 
 -- the verdict of a turn is that of its block
-found : (c : tie.After-verdict-in Inv-loop μ-loop) → c .verdict-in .result ≡ verdicts (start (turn c .before)) (turn c .before .loop .k)
+found : (c : tie.After-visit-accepted Inv-loop μ-loop) → c .visit-accepted .result ≡ verdicts (start (turn c .before)) (turn c .before .loop .k)
 found c =
     let at = turn c .before in
     let k = at .loop .k in
-    c .verdict-in .ensures
-    ∙ ap verdictIn (c .before .before .before .visit .ensures .answers ∙ ap (λ (image : List ℕ). answers (start at) image k) (at .loop .inv .1))
-    ∙ finds (start at) k (turn c .loop-test .taken)
+    c .visit-accepted .ensures .says
+    ∙ ap (λ (image : List ℕ). verdictIn (answers (start at) image k)) (at .loop .inv .1)
+    ∙ finds (start at) k (omega (arith, turn c .loop-test .taken, known at .blocks2 .ensures))
 
 -- ---- the needs
 
-mul-n : tie.Need-mul-n Inv-loop μ-loop
-mul-n c = omega (arith, few (c .before .before))
+blocks-requires : tie.Need-blocks-requires Inv-loop μ-loop
+blocks-requires c κs = search needs
+
+cast-n : tie.Need-cast-n Inv-loop μ-loop
+cast-n c = omega (arith, c .blocks2 .ensures, few (c .before .before .before))
 
 image-line-requires : tie.Need-image-line-requires Inv-loop μ-loop
 image-line-requires c κs = search needs
@@ -106,11 +112,8 @@ loop-holds : tie.Need-loop-holds Inv-loop μ-loop
 unfolding visitedBelow blockLines tallyBelow writtenAll
 loop-holds c = (omega arith, refl, refl, refl, refl, refl)
 
-visit-requires : tie.Need-visit-requires Inv-loop μ-loop
-visit-requires c κs = search needs
-
-verdict-in-requires : tie.Need-verdict-in-requires Inv-loop μ-loop
-verdict-in-requires c κs = search needs
+visit-accepted-requires : tie.Need-visit-accepted-requires Inv-loop μ-loop
+visit-accepted-requires c κs = search needs
 
 block-line-requires : tie.Need-block-line-requires Inv-loop μ-loop
 block-line-requires c κs = search needs
@@ -123,10 +126,10 @@ count-requires c κs =
     let tally = within (start at) (at .loop .k) in
     record {
       small = rw (found (judged c)) (small (start at) (at .loop .k));
-      cleanFew = rw (at .loop .inv .3) (omega (arith, tally .clean));
-      mendedFew = rw (at .loop .inv .3) (omega (arith, tally .mended));
-      lostFew = rw (at .loop .inv .3) (omega (arith, tally .lost));
-      bitsFew = rw (at .loop .inv .3) (omega (arith, tally .bits));
+      cleanFew = rw (at .loop .inv .3) (omega (arith, tally .clean, known at .blocks2 .ensures));
+      mendedFew = rw (at .loop .inv .3) (omega (arith, tally .mended, known at .blocks2 .ensures));
+      lostFew = rw (at .loop .inv .3) (omega (arith, tally .lost, known at .blocks2 .ensures));
+      bitsFew = rw (at .loop .inv .3) (omega (arith, tally .bits, known at .blocks2 .ensures));
     }
 
 add-k : tie.Need-add-k Inv-loop μ-loop
@@ -143,7 +146,7 @@ loop-again c =
     let found-at = judged (c .before) in
     let at = turn found-at .before in
     let k = at .loop .k in
-    let visit = found-at .before .before .before .visit in
+    let visit = found-at .visit-accepted in
     let line = c .before .before .before .block-line in
     let verdict = found found-at in
     rw add-one (
@@ -173,10 +176,12 @@ unfolding imageReport writtenAll
 returns c =
     let at = ended c .before in
     let s = start at in
-    let all : at .loop .k ≡ many s = omega (arith, ended c .loop-test .left) in (
+    let all : at .loop .k ≡ many s = omega (arith, ended c .loop-test .left, known at .blocks2 .ensures) in
+    let layout = s .args .layout in
+    let first = ap (λ (n : ℕ). written (imageLine (layout .shape) (layout .s) (layout .g) n) (page (s .args .out .now) 0)) (known at .blocks2 .ensures) in (
       c .before .before .total-line .ensures
           ∙ ap₂ written (ap totalLine (at .loop .inv .3 ∙ ap (tallies s) all))
-          (at .loop .inv .2 ∙ ap₂ writtenAll (ap (lines s) all) (at .before .before .before .image-line .ensures))
+          (at .loop .inv .2 ∙ ap₂ writtenAll (ap (lines s) all) (at .before .before .before .image-line .ensures ∙ first))
           ∙ sym (written-last (lines s (many s)) (totalLine (tallies s (many s))) _),
       at .loop .inv .1 ∙ ap (images s) all,
     )
@@ -187,11 +192,11 @@ report-image-spec =
     (tie.spec
     Inv-loop
     μ-loop
-    mul-n
+    blocks-requires
+    cast-n
     image-line-requires
     loop-holds
-    visit-requires
-    verdict-in-requires
+    visit-accepted-requires
     block-line-requires
     count-requires
     add-k
