@@ -46,7 +46,8 @@ word-past front rest n =
     let one : size + n + 1 ≡ size + (n + 1) = omega arith in
     let two : size + n + 2 ≡ size + (n + 2) = omega arith in
     let three : size + n + 3 ≡ size + (n + 3) = omega arith in
-    rw (one, two, three, getD-append-add front rest n 0, getD-append-add front rest (n + 1) 0, getD-append-add front rest (n + 2) 0, getD-append-add front rest (n + 3) 0)
+    let past : (k : ℕ) → getD (front ++ rest) (size + k) 0 ≡ getD rest k 0 = λ k. getD-append-add front rest k 0 in
+    rw (one, two, three, past n, past (n + 1), past (n + 2), past (n + 3))
 
 -- ---- from an image to its file and back
 

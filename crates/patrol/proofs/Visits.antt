@@ -18,7 +18,8 @@ use Rattle.patrol.specs.Turn.{seen, visited, reported, patrolled}
 use Rattle.patrol.specs.Inner.{Ready}
 
 -- a visit that is accepted says what it finds
-sees : (layout : Layout) (image : List ℕ) (block : ℕ) → blockRefusal (length image) layout block ≡ 0 → verdictIn (visitAnswer image layout block) ≡ seen layout image block
+sees : (layout : Layout) (image : List ℕ) (block : ℕ) → blockRefusal (length image) layout block ≡ 0
+    → verdictIn (visitAnswer image layout block) ≡ seen layout image block
 unfolding visitAnswer
 sees layout image block passed = rw passed
 
@@ -43,5 +44,6 @@ module _ (layout : Layout) (image : List ℕ) (due : Due) (ready : Ready layout 
         let below = inside (TwoDue first second) e .inside refl in
         let size : length between ≡ length image = ap length (met .leaves) ∙ visit-untouched image layout first .size in
         let fine : blockRefusal (length between) layout second ≡ 0 = rw size (block-accepted layout (length image) second (ready .passed) (below .1)) in
-        let later : w ≡ seen layout (visited layout image first) second = also .says ∙ sees layout between second fine ∙ ap (λ (l : List ℕ). seen layout l second) (met .leaves) in
+        let later : w ≡ seen layout (visited layout image first) second =
+        also .says ∙ sees layout between second fine ∙ ap (λ (l : List ℕ). seen layout l second) (met .leaves) in
         rw (e, saw (below .0), later) (refl, also .leaves ∙ ap (λ (l : List ℕ). visited layout l second) (met .leaves))

@@ -42,7 +42,10 @@ tallyBelow image layout (suc n) = counted (verdictAt image layout n) (tallyBelow
 
 unfoldable pub imageReport : List ℕ → Layout → List (List ℕ)
 imageReport image layout =
-    imageLine (layout .shape) (layout .s) (layout .g) (blocks layout) ∷ blockLines image layout (blocks layout) ++ totalLine (tallyBelow image layout (blocks layout)) ∷ []
+    imageLine (layout .shape) (layout .s) (layout .g) (blocks layout)
+    ∷ blockLines image layout (blocks layout)
+    ++ totalLine (tallyBelow image layout (blocks layout))
+    ∷ []
 
 -- ---- a file
 

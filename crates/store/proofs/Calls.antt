@@ -73,7 +73,8 @@ module _ (image : List ℕ) {layout : Layout} {block : ℕ} {shape : Shape} {at 
   back : (given : List ℕ) → strideWrite image at (layout .s) given (rows shape) ≡ placed layout block given image
   back given = rw (site .first, site .same-shape) (placed-stride layout block given image)
 
-  pub write-stored : (list valid after : List ℕ) → length list ≡ words shape → valid ≡ validBlock shape list → after ≡ strideWrite image at (layout .s) valid (rows shape)
+  pub write-stored : (list valid after : List ℕ) → length list ≡ words shape → valid ≡ validBlock shape list
+      → after ≡ strideWrite image at (layout .s) valid (rows shape)
       → Writes image layout block list Stored after
   unfolding writeAnswer writeAfter
   write-stored list valid after fits e w =

@@ -37,12 +37,15 @@ pub mended-past : (shape : Shape) (block : List ℕ) (k : ℕ) → rows shape �
 unfolding mendedBlock mendedLanes
 mended-past shape block k h = by (lanesLost shape block)
   where
+    untouched : (f : Lane) → changes (decide (before shape) f) (suc k) ≡ false
+    untouched f = no-change (before shape) f (decide (before shape) f) (decided (before shape) f) (suc k) (omega arith)
+
     lanes : getD (mendedLanes shape block) k 0 ≡ getD block k 0
     lanes =
         ⊎-elim
         (λ l.
         getD-listOf (length block) _ k l
-        ∙ ap (bitXor (getD block k 0)) (number-same 32 _ (λ i. false) (λ i hi. no-change (before shape) (lane i block) (decide (before shape) (lane i block)) (decided (before shape) (lane i block)) (suc k) (omega arith)) ∙ word-none)
+        ∙ ap (bitXor (getD block k 0)) (number-same 32 _ (λ i. false) (λ i hi. untouched (lane i block)) ∙ word-none)
         ∙ xor-zero-r (getD block k 0))
         (λ l. List·getD-eq-default (mendedLanes shape block) 0 {n = k} (rw (length-lanes shape block) l) ∙ sym (List·getD-eq-default block 0 {n = k} l))
         (split-below k (length block))

@@ -31,7 +31,9 @@ array-share-prefix-out : tie.Need-array-share-prefix-out
 array-share-prefix-out c = report-inside (c .before .before .inspect .ensures)
 
 slice-aggregate-write-all : tie.Need-slice-aggregate-write-all
-slice-aggregate-write-all c = sym (length-take-le (c .before .before .before .inspect .result) (c .before .before .before .inspect .last .1 .1 .0) (array-share-prefix-out (c .before)))
+slice-aggregate-write-all c =
+    let said = c .before .before .before .inspect in
+    sym (length-take-le (said .result) (said .last .1 .1 .0) (array-share-prefix-out (c .before)))
 
 write-all-requires : tie.Need-write-all-requires
 write-all-requires c κs = search needs

@@ -31,7 +31,8 @@ whole : (c : tie.Else1) → 9 ≤ length (start c .args .bytes .now)
 whole c = framed _ (passes c) .least
 
 -- the layout that was read is the one in the bytes
-read : (c : tie.After-pair-of) → layoutOf (c .before .before .before .before .before .wide .result) (c .before .before .before .wide2 .result) (c .pair-of .result)
+read : (c : tie.After-pair-of)
+    → layoutOf (c .before .before .before .before .before .wide .result) (c .before .before .before .wide2 .result) (c .pair-of .result)
     ≡ layoutIn (start (framing c) .args .bytes .now)
 read c = same-layout (c .before .before .before .before .before .wide .ensures) (c .before .before .before .wide2 .ensures) (c .pair-of .ensures .0)
 

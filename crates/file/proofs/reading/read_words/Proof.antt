@@ -60,7 +60,8 @@ returns : tie.Need-returns Inv-loop μ-loop
 unfolding wordsInto
 returns c =
     let start = c .before .before .before .before .before .before in
-    let e : c .before .loop .k ≡ min (wordCount (length (start .args .bytes .now))) (length (start .args .image .now)) = omega (arith, c .before .before .least .ensures) in
+    let count = min (wordCount (length (start .args .bytes .now))) (length (start .args .image .now)) in
+    let e : c .before .loop .k ≡ count = omega (arith, c .before .before .least .ensures) in
     rw (← e) (c .before .loop .inv .1)
 
 pub read-words-spec : {M : Type 1} → statement M

@@ -22,8 +22,8 @@ passed c = sym (c .before .check .ensures) ∙ c .if1 .left
 height : (c : tie.After-rows) → c .rows .result ≡ rowsOf (c .before .before .before .before .args .self)
 height c = c .rows .ensures ∙ ap rows (c .before .shape-of .ensures)
 
-size : (c : tie.After-blocks2)
-    → c .before .rows .result * c .blocks2 .result ≡ rowsOf (c .before .before .before .before .before .args .self) * blocks (c .before .before .before .before .before .args .self)
+size : (c : tie.After-blocks2) → let layout = c .before .before .before .before .before .args .self in
+    c .before .rows .result * c .blocks2 .result ≡ rowsOf layout * blocks layout
 size c = ap₂ _*_ (height (c .before)) (c .blocks2 .ensures)
 
 check-requires : tie.Need-check-requires

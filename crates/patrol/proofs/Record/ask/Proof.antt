@@ -30,7 +30,8 @@ returns-2 : tie.Need-returns-2
 returns-2 c =
     let answer = c .before in
     let checked = answer .before .before .before in
-    ask-answered _ _ _ (checked .before .check .ensures) (checked .if1 .left) (answer .ask .result) (rw (← answer .before .blocks2 .ensures) (answer .ask .ensures))
+    ask-answered _ _ _ (checked .before .check .ensures) (checked .if1 .left) (answer .ask .result)
+    (rw (← answer .before .blocks2 .ensures) (answer .ask .ensures))
 
 pub ask-spec : {M : Type 1} → statement M
 ask-spec =

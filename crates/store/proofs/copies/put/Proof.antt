@@ -10,7 +10,8 @@ use Rattle.store.proofs.copies.put.Tie as tie
 put-rows-requires : tie.Need-put-rows-requires
 put-rows-requires c κs =
     let start = c .before .before .before in
-    subst (λ (s : ℕ). (start .args .rows ≤ 72) × Inside (length (start .args .image .now)) (start .args .rows) (start .args .at) s) (c .before .if1 .taken) (start .pre)
+    let a = start .args in
+    subst (λ (s : ℕ). (a .rows ≤ 72) × Inside (length (a .image .now)) (a .rows) (a .at) s) (c .before .if1 .taken) (start .pre)
 
 put-rows-requires-2 : tie.Need-put-rows-requires-2
 put-rows-requires-2 c κs = search needs
@@ -20,9 +21,9 @@ same-length c = search needs
 
 returns : tie.Need-returns
 returns c =
-    let start = c .before .before .before .before .before .before in
+    let a = c .before .before .before .before .before .before .args in
     c .before .before .put-rows .ensures
-    ∙ ap (λ (s : ℕ). strideWrite (start .args .image .now) (start .args .at) s (start .args .block .now) (start .args .rows)) (sym (c .before .before .before .before .if1 .taken))
+    ∙ ap (λ (s : ℕ). strideWrite (a .image .now) (a .at) s (a .block .now) (a .rows)) (sym (c .before .before .before .before .if1 .taken))
 
 same-length-2 : tie.Need-same-length-2
 same-length-2 c = search needs

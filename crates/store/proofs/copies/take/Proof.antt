@@ -10,16 +10,17 @@ use Rattle.store.proofs.copies.take.Tie as tie
 take-rows-requires : tie.Need-take-rows-requires
 take-rows-requires c κs =
     let start = c .before .before .before in
-    subst (λ (s : ℕ). (start .args .rows ≤ 72) × Inside (length (start .args .image .now)) (start .args .rows) (start .args .at) s) (c .before .if1 .taken) (start .pre)
+    let a = start .args in
+    subst (λ (s : ℕ). (a .rows ≤ 72) × Inside (length (a .image .now)) (a .rows) (a .at) s) (c .before .if1 .taken) (start .pre)
 
 take-rows-requires-2 : tie.Need-take-rows-requires-2
 take-rows-requires-2 c κs = search needs
 
 returns : tie.Need-returns
 returns c =
-    let start = c .before .before .before .before in
+    let a = c .before .before .before .before .args in
     c .take-rows .ensures
-    ∙ ap (λ (s : ℕ). strideRead (start .args .image .now) (start .args .at) s (start .args .block .now) (start .args .rows)) (sym (c .before .before .if1 .taken))
+    ∙ ap (λ (s : ℕ). strideRead (a .image .now) (a .at) s (a .block .now) (a .rows)) (sym (c .before .before .if1 .taken))
 
 returns-2 : tie.Need-returns-2
 returns-2 c = search needs

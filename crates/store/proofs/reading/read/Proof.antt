@@ -15,8 +15,8 @@ use Rattle.store.proofs.reading.read.Tie as tie
 abbrev start : tie.After-known-told2 → tie.Start
 start c = c .before .before .before .before .before .before
 
-site : (c : tie.After-known-told2)
-    → Located (length (start c .args .image .now)) (start c .args .layout) (start c .args .block) (c .before .shape .given .0 .0) (c .before .shape .given .0 .1 .0)
+site : (c : tie.After-known-told2) → let a = start c .args in let found = c .before .shape .given .0 in
+    Located (length (a .image .now)) (a .layout) (a .block) (found .0) (found .1 .0)
 site c = located _ _ _ _ _ (sym (c .before .before .before .locate .ensures) ∙ c .before .shape .given .1)
 
 -- the buffer is of the exact length
@@ -78,7 +78,9 @@ data-into-requires c κs = search needs
 
 returns-3 : tie.Need-returns-3
 returns-3 c =
-    let r = data-refused _ _ _ _ (length (c .before .before .before .before .before .before .args .buffer .now)) (sym (c .before .before .before .locate .ensures) ∙ c .before .number .given .1) in
+    let found = c .before .before .before in
+    let none = sym (found .locate .ensures) ∙ c .before .number .given .1 in
+    let r = data-refused _ _ _ _ (length (found .before .before .before .args .buffer .now)) none in
     read-refused _ _ _ _ _ (r .0) (r .1)
 
 same-length : tie.Need-same-length

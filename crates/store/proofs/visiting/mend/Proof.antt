@@ -23,8 +23,9 @@ same-length c = search needs
 
 returns : tie.Need-returns
 returns c =
-    let took = c .before .before .before .before .before .before .before .before .before .gather .ensures in
-    let decided = c .before .before .before .before .before .before .before .decide .ensures in
+    let judged = c .before .before .before .before .before .before .before in
+    let took = judged .before .before .gather .ensures in
+    let decided = judged .decide .ensures in
     rw (← took, ← decided .1) (decided .0, c .before .before .scatter .ensures)
 
 same-length-2 : tie.Need-same-length-2

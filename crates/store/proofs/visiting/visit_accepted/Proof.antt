@@ -13,8 +13,8 @@ use Rattle.store.proofs.visiting.visit_accepted.Tie as tie
 abbrev start : tie.After-known-told → tie.Start
 start c = c .before .before .before .before .before
 
-site : (c : tie.After-known-told)
-    → Located (length (start c .args .image .now)) (start c .args .layout) (start c .args .block) (c .before .shape .given .0 .0) (c .before .shape .given .0 .1 .0)
+site : (c : tie.After-known-told) → let a = start c .args in let found = c .before .shape .given .0 in
+    Located (length (a .image .now)) (a .layout) (a .block) (found .0) (found .1 .0)
 site c = located _ _ _ _ _ (sym (c .before .before .before .locate .ensures) ∙ c .before .shape .given .1)
 
 locate-requires : tie.Need-locate-requires

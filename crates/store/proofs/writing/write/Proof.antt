@@ -14,8 +14,8 @@ use Rattle.store.proofs.writing.write.Tie as tie
 abbrev start : tie.After-known-told2 → tie.Start
 start c = c .before .before .before .before .before .before
 
-site : (c : tie.After-known-told2)
-    → Located (length (start c .args .image .now)) (start c .args .layout) (start c .args .block) (c .before .shape .given .0 .0) (c .before .shape .given .0 .1 .0)
+site : (c : tie.After-known-told2) → let a = start c .args in let found = c .before .shape .given .0 in
+    Located (length (a .image .now)) (a .layout) (a .block) (found .0) (found .1 .0)
 site c = located _ _ _ _ _ (sym (c .before .before .before .locate .ensures) ∙ c .before .shape .given .1)
 
 -- the list is of the exact length
@@ -55,7 +55,9 @@ scatter-requires c κs = inside _ _ _ (site (exact c .before .before))
 
 returns-2 : tie.Need-returns-2
 returns-2 c =
-    let r = data-refused _ _ _ _ (length (c .before .before .before .before .before .before .args .list .now)) (sym (c .before .before .before .locate .ensures) ∙ c .before .number .given .1) in
+    let found = c .before .before .before in
+    let none = sym (found .locate .ensures) ∙ c .before .number .given .1 in
+    let r = data-refused _ _ _ _ (length (found .before .before .before .args .list .now)) none in
     write-refused _ _ _ _ _ (r .0) (r .1)
 
 same-length : tie.Need-same-length
