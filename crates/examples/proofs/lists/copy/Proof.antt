@@ -3,8 +3,8 @@ use Prim.Native.Nat.{_≤_, _-_}
 use mathlib.Core.Path.{_≡_}
 use lib.ListN.{length}
 use borrow.Author.Needs.{needs}
-use Rattle.examples.proofs.words.copy.Statement.{statement}
-use Rattle.examples.proofs.words.copy.Tie as tie
+use Rattle.examples.proofs.lists.copy.Statement.{statement}
+use Rattle.examples.proofs.lists.copy.Tie as tie
 
 abbrev Inv-loop : tie.InvT-loop
 Inv-loop from to₀ i₀ to i = (i ≤ length from) × (length to ≡ length to₀)

@@ -2,8 +2,8 @@
 use Prim.Native.Nat.{_≤_, _-_}
 use lib.ListN.{length}
 use borrow.Author.Needs.{needs}
-use Rattle.examples.proofs.words.same.Statement.{statement}
-use Rattle.examples.proofs.words.same.Tie as tie
+use Rattle.examples.proofs.lists.same.Statement.{statement}
+use Rattle.examples.proofs.lists.same.Tie as tie
 
 abbrev Inv-loop : tie.InvT-loop
 Inv-loop a b i₀ i = i ≤ length a

@@ -3,8 +3,8 @@ use Prim.Native.Nat.{_≤_, _-_}
 use mathlib.Core.Path.{_≡_}
 use lib.ListN.{length}
 use borrow.Author.Needs.{needs}
-use Rattle.examples.proofs.words.put_rows.Statement.{statement}
-use Rattle.examples.proofs.words.put_rows.Tie as tie
+use Rattle.examples.proofs.lists.put_rows.Statement.{statement}
+use Rattle.examples.proofs.lists.put_rows.Tie as tie
 
 abbrev Inv-loop : tie.InvT-loop
 Inv-loop words₀ rows word i₀ words i = (i ≤ length rows) × (length words ≡ length words₀)
