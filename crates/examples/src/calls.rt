@@ -9,49 +9,56 @@ use crate::heads::Head;
 use crate::heads::READ;
 use crate::heads::TURN;
 use crate::heads::WRITE;
-use crate::records::put_record;
-use crate::records::record_of;
+use crate::lists::copy;
+use patrol::Record;
 use store::Answer;
+use words::RECORD_WORDS;
+
+// The record that these words hold.
+fn record_of(beside: &[u32]) -> Record {
+    let mut given = [0u32; RECORD_WORDS];
+    copy(beside, &mut given);
+    words::record_of(given)
+}
+
+// Puts the record that comes back.
+fn put_record(back: Record, beside: &mut [u32]) {
+    let told = words::record_words(back);
+    copy(&told, beside);
+}
 
 // Format, and the record that it gives.
 fn run_format(head: Head, image: &mut [u32], beside: &mut [u32]) -> [u32; 8] {
-    let formatted = patrol::format(image, head.shape, head.s, head.g);
-    let back = formatted.back;
-    put_record(back, beside);
+    let formatted = patrol::format(image, head.layout);
+    put_record(formatted.back, beside);
     of_number(formatted.number)
 }
 
 // An ask, and the record that comes back.
 fn run_ask(block: u32, beside: &mut [u32]) -> [u32; 8] {
-    let given = record_of(beside);
-    let asked = given.ask(block);
+    let asked = record_of(beside).ask(block);
     let place = asked.place;
-    let back = asked.back;
-    put_record(back, beside);
+    put_record(asked.back, beside);
     of_place(place)
 }
 
 // A turn, and the record that comes back.
 fn run_turn(image: &mut [u32], beside: &mut [u32]) -> [u32; 8] {
-    let given = record_of(beside);
-    let turned = given.turn(image);
+    let turned = record_of(beside).turn(image);
     let report = turned.report;
-    let back = turned.back;
-    put_record(back, beside);
+    put_record(turned.back, beside);
     of_report(report)
 }
 
 // A write, a read or a visit of a block.
 fn run_block(head: Head, image: &mut [u32], beside: &mut [u32]) -> Answer {
     let call = head.call;
-    let shape = head.shape;
-    let s = head.s;
-    let g = head.g;
+    let layout = head.layout;
     let block = head.block;
     match call {
-        WRITE => store::write(image, shape, s, g, block, beside),
-        READ => store::read(image, shape, s, g, block, beside),
-        _ => store::visit(image, shape, s, g, block),
+        WRITE => store::write(image, layout, block, beside),
+        READ => store::read(image, layout, block, beside),
+        _ => store::visit(image, layout, block),
     }
 }
 

@@ -1,5 +1,6 @@
 // The first eight words of a vector: which call, its arguments, and how many words it is lent.
-use crate::words::word_at;
+use crate::lists::word_at;
+use layout::Layout;
 
 // The numbers of the calls.
 pub(crate) const FORMAT: u32 = 1;
@@ -16,9 +17,7 @@ pub(crate) const TURN: u32 = 6;
 
 pub(crate) struct Head {
     pub(crate) call: u32,
-    pub(crate) shape: u32,
-    pub(crate) s: u32,
-    pub(crate) g: u32,
+    pub(crate) layout: Layout,
     pub(crate) block: u32,
     // The words of the image, of the data list or buffer, and of the record.
     pub(crate) image: u32,
@@ -29,11 +28,14 @@ pub(crate) struct Head {
 impl Head {
     // The head of a vector, with zeros for words that are not there.
     pub(crate) fn of(vector: &[u32]) -> Head {
-        Head {
-            call: word_at(vector, 0),
+        let layout = Layout {
             shape: word_at(vector, 1),
             s: word_at(vector, 2),
             g: word_at(vector, 3),
+        };
+        Head {
+            call: word_at(vector, 0),
+            layout,
             block: word_at(vector, 4),
             image: word_at(vector, 5),
             list: word_at(vector, 6),

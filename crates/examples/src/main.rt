@@ -3,11 +3,10 @@ mod answers;
 mod calls;
 mod heads;
 mod input;
+mod lists;
 mod patrolled;
-mod records;
 mod vectors;
 mod visited;
-mod words;
 mod written;
 
 use libc::STDOUT_FILENO;

@@ -1,7 +1,6 @@
 // Worked examples 13 to 15: format, ask and turn.
-use crate::answers::of_place;
-use crate::answers::of_report;
-use crate::words::same;
+use crate::lists::same;
+use layout::Layout;
 use patrol::Record;
 
 // A step of the patrol: whether all answers up to here were the expected ones, and the record.
@@ -16,20 +15,20 @@ impl Step {
         let before = self.back;
         let asked = before.ask(block);
         let given = asked.place;
-        let answer = of_place(given);
+        let said = words::place_words(given);
         let back = asked.back;
-        let holds = self.holds && same(&answer, &[number, 0, 0, 0, 0, 0, 0, place]);
+        let holds = self.holds && words::place_number(given) == number && same(&said, &[place]);
         Step { holds, back }
     }
 
-    // A turn that is to report these words.
+    // A turn that is to be accepted, and to report these words.
     fn turn(self, image: &mut [u32], report: &[u32]) -> Step {
         let before = self.back;
         let turned = before.turn(image);
         let said = turned.report;
-        let answer = of_report(said);
+        let visits = words::report_words(said);
         let back = turned.back;
-        let holds = self.holds && same(&answer, report);
+        let holds = self.holds && words::report_number(said) == 0 && same(&visits, report);
         Step { holds, back }
     }
 
@@ -47,7 +46,8 @@ impl Step {
 
 // A store of shape 1, freshly formatted.
 fn formatted(image: &mut [u32], s: u32, g: u32) -> Step {
-    let fresh = patrol::format(image, 1, s, g);
+    let layout = Layout { shape: 1, s, g };
+    let fresh = patrol::format(image, layout);
     let holds = fresh.number == 0;
     let back = fresh.back;
     Step { holds, back }
@@ -59,15 +59,16 @@ pub(crate) fn example_13() -> bool {
     let fresh = formatted(&mut image, 3, 1);
     let once = fresh.ask(2, 0, 1);
     let twice = once.ask(2, 0, 1);
-    let first = twice.turn(&mut image, &[0, 0, 1, 0, 2, 1, 0, 0]);
-    let second = first.turn(&mut image, &[0, 1, 1, 0, 0, 0, 0, 0]);
+    let first = twice.turn(&mut image, &[0, 1, 0, 2, 1, 0]);
+    let second = first.turn(&mut image, &[1, 1, 0, 0, 0, 0]);
     second.holds
 }
 
 // Whether format refuses an image by this number and leaves its words.
 fn format_refuses(s: u32, g: u32, number: u32) -> bool {
     let mut image = [7u32; 16];
-    let refused = patrol::format(&mut image, 1, s, g);
+    let layout = Layout { shape: 1, s, g };
+    let refused = patrol::format(&mut image, layout);
     refused.number == number && same(&image, &[7u32; 16])
 }
 
@@ -88,7 +89,7 @@ pub(crate) fn example_15() -> bool {
     let fresh = formatted(&mut image, 1, 17);
     let full = fresh.ask_sixteen();
     let refused = full.ask(16, 8, 0);
-    let turned = refused.turn(&mut image, &[0, 0, 1, 0, 0, 1, 0, 0]);
+    let turned = refused.turn(&mut image, &[0, 1, 0, 0, 1, 0]);
     let asked = turned.ask(16, 0, 16);
     asked.holds
 }

@@ -3,11 +3,11 @@ use crate::calls::run;
 use crate::heads::Head;
 use crate::input::Input;
 use crate::input::read_vector;
-use crate::words::after;
-use crate::words::copy;
-use crate::words::first;
-use crate::words::lent;
-use crate::words::same;
+use crate::lists::after;
+use crate::lists::copy;
+use crate::lists::first;
+use crate::lists::lent;
+use crate::lists::same;
 
 // How many vectors there were, and how many agree.
 pub(crate) struct Tally {

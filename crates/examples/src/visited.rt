@@ -1,11 +1,13 @@
 // Worked examples 5 to 11: what a visit finds, and what it leaves.
 use crate::answers::of_answer;
-use crate::words::put_rows;
-use crate::words::same;
+use crate::lists::put_rows;
+use crate::lists::same;
+use layout::Layout;
 
 // Whether a visit of the only block of an image finds this verdict and count, and leaves these words.
 fn visit_leaves(image: &mut [u32], shape: u32, verdict: u32, count: u32, after: &[u32]) -> bool {
-    let answer = of_answer(store::visit(image, shape, 1, 1, 0));
+    let alone = Layout { shape, s: 1, g: 1 };
+    let answer = of_answer(store::visit(image, alone, 0));
     same(&answer, &[0, 0, verdict, count, 0, 0, 0, 0]) && same(image, after)
 }
 

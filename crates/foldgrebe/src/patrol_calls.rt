@@ -1,11 +1,9 @@
 // Format, ask and turn for C.
+ghost use Rattle.layout.specs.Layout.{layoutOf};
 ghost use Rattle.foldgrebe.specs.Calls.{Made, Asked, Turned};
-use super::answers::place_number;
-use super::answers::put_place;
-use super::answers::put_report;
-use super::answers::report_number;
-use super::records::get_record;
-use super::records::put_record;
+use layout::Layout;
+use words::RECORD_WORDS;
+use words::REPORT_WORDS;
 
 #[no_mangle]
 pub extern "C" fn foldgrebe_format(
@@ -13,40 +11,41 @@ pub extern "C" fn foldgrebe_format(
     shape: u32,
     s: u32,
     g: u32,
-    kept: &mut [u32; 21],
+    back: &mut [u32; RECORD_WORDS],
 ) -> u32
-    ensures { λ r. ⌜ Made (now (image .entry)) shape s g r (now (image .exit)) (now (kept .exit)) ⌝ }
+    ensures { λ r. ⌜ Made (now (image .entry)) (layoutOf shape s g) r (now (image .exit)) (now (back .exit)) ⌝ }
 {
-    let answer = patrol::format(image, shape, s, g);
-    let back = answer.back;
-    put_record(kept, back);
+    let answer = patrol::format(image, Layout { shape, s, g });
+    *back = words::record_words(answer.back);
     answer.number
 }
 
 #[no_mangle]
-pub extern "C" fn foldgrebe_ask(kept: &mut [u32; 21], block: u32, place: &mut [u32; 1]) -> u32
-    ensures { λ r. ⌜ Asked (now (kept .entry)) block r (now (kept .exit)) (now (place .exit)) ⌝ }
+pub extern "C" fn foldgrebe_ask(
+    back: &mut [u32; RECORD_WORDS],
+    block: u32,
+    place: &mut [u32; 1],
+) -> u32
+    ensures { λ r. ⌜ Asked (now (back .entry)) block r (now (back .exit)) (now (place .exit)) ⌝ }
 {
-    let answer = get_record(kept).ask(block);
+    let answer = words::record_of(*back).ask(block);
     let given = answer.place;
-    let back = answer.back;
-    put_record(kept, back);
-    put_place(place, given);
-    place_number(given)
+    *back = words::record_words(answer.back);
+    *place = words::place_words(given);
+    words::place_number(given)
 }
 
 #[no_mangle]
 pub extern "C" fn foldgrebe_turn(
-    kept: &mut [u32; 21],
+    back: &mut [u32; RECORD_WORDS],
     image: &mut [u32],
-    report: &mut [u32; 6],
+    report: &mut [u32; REPORT_WORDS],
 ) -> u32
-    ensures { λ r. ⌜ Turned (now (kept .entry)) (now (image .entry)) r (now (kept .exit)) (now (image .exit)) (now (report .exit)) ⌝ }
+    ensures { λ r. ⌜ Turned (now (back .entry)) (now (image .entry)) r (now (back .exit)) (now (image .exit)) (now (report .exit)) ⌝ }
 {
-    let answer = get_record(kept).turn(image);
+    let answer = words::record_of(*back).turn(image);
     let said = answer.report;
-    let back = answer.back;
-    put_record(kept, back);
-    put_report(report, said);
-    report_number(said)
+    *back = words::record_words(answer.back);
+    *report = words::report_words(said);
+    words::report_number(said)
 }

@@ -1,7 +1,8 @@
 // Write, read and visit for C.
+ghost use Rattle.layout.specs.Layout.{layoutOf};
 ghost use Rattle.foldgrebe.specs.Calls.{Wrote, Gave, Saw};
-use super::answers::answer_number;
-use super::answers::put_verdict;
+use layout::Layout;
+use words::VERDICT_WORDS;
 
 #[no_mangle]
 pub extern "C" fn foldgrebe_write(
@@ -12,9 +13,9 @@ pub extern "C" fn foldgrebe_write(
     block: u32,
     list: &[u32],
 ) -> u32
-    ensures { λ r. ⌜ Wrote (now (image .entry)) shape s g block (now (list .entry)) r (now (image .exit)) ⌝ }
+    ensures { λ r. ⌜ Wrote (now (image .entry)) (layoutOf shape s g) block (now (list .entry)) r (now (image .exit)) ⌝ }
 {
-    answer_number(store::write(image, shape, s, g, block, list))
+    words::answer_number(store::write(image, Layout { shape, s, g }, block, list))
 }
 
 #[no_mangle]
@@ -25,13 +26,13 @@ pub extern "C" fn foldgrebe_read(
     g: u32,
     block: u32,
     buffer: &mut [u32],
-    verdict: &mut [u32; 2],
+    verdict: &mut [u32; VERDICT_WORDS],
 ) -> u32
-    ensures { λ r. ⌜ Gave (now (image .entry)) shape s g block (now (buffer .entry)) r (now (buffer .exit)) (now (verdict .exit)) ⌝ }
+    ensures { λ r. ⌜ Gave (now (image .entry)) (layoutOf shape s g) block (now (buffer .entry)) r (now (buffer .exit)) (now (verdict .exit)) ⌝ }
 {
-    let answer = store::read(image, shape, s, g, block, buffer);
-    put_verdict(verdict, answer);
-    answer_number(answer)
+    let answer = store::read(image, Layout { shape, s, g }, block, buffer);
+    *verdict = words::answer_words(answer);
+    words::answer_number(answer)
 }
 
 #[no_mangle]
@@ -41,11 +42,11 @@ pub extern "C" fn foldgrebe_visit(
     s: u32,
     g: u32,
     block: u32,
-    verdict: &mut [u32; 2],
+    verdict: &mut [u32; VERDICT_WORDS],
 ) -> u32
-    ensures { λ r. ⌜ Saw (now (image .entry)) shape s g block r (now (image .exit)) (now (verdict .exit)) ⌝ }
+    ensures { λ r. ⌜ Saw (now (image .entry)) (layoutOf shape s g) block r (now (image .exit)) (now (verdict .exit)) ⌝ }
 {
-    let answer = store::visit(image, shape, s, g, block);
-    put_verdict(verdict, answer);
-    answer_number(answer)
+    let answer = store::visit(image, Layout { shape, s, g }, block);
+    *verdict = words::answer_words(answer);
+    words::answer_number(answer)
 }

@@ -1,46 +1,56 @@
--- `foldgrebe_ask` meets its contract. Assumes nothing.
-use mathlib.Core.Path.{ap, _∙_}
+-- `foldgrebe_ask` meets its contract: what an ask of the record that was lent answers, and the record that it makes, as words. Assumes nothing.
+use mathlib.Core.Path.{_≡_, ap, _∙_}
 use Rattle.rota.specs.Numbers.{placeNumber}
 use Rattle.patrol.specs.declared.Record.{Record}
 use Rattle.patrol.specs.declared.Asked.{Asked}
 use Rattle.patrol.specs.Ask.{asked}
-use Rattle.foldgrebe.specs.Words.{recordWords, placeWord}
+use Rattle.words.specs.Answers.{placeWords}
+use Rattle.words.specs.Records.{recordOf, recordWords}
 use borrow.Author.Needs.{needs}
 use Rattle.foldgrebe.proofs.patrol_calls.foldgrebe_ask.Statement.{statement}
 use Rattle.foldgrebe.proofs.patrol_calls.foldgrebe_ask.Tie as tie
 
-get-record-requires : tie.Need-get-record-requires
-get-record-requires c κs = search needs
+-- the start, from where the ask was answered
+abbrev start : tie.After-ask → tie.Start
+start c = c .before .before .before
+
+-- what was answered: the ask of the record that the lent words hold
+answered : (c : tie.After-ask) → c .ask .result ≡ asked (recordOf (start c .args .back .now)) (start c .args .block)
+answered c = c .ask .ensures ∙ ap (λ (r : Record). asked r (start c .args .block)) (c .before .record-of .ensures)
+
+record-of-requires : tie.Need-record-of-requires
+record-of-requires c κs = search needs
 
 ask-requires : tie.Need-ask-requires
 ask-requires c κs = search needs
 
-put-record-requires : tie.Need-put-record-requires
-put-record-requires c κs = search needs
+record-words-requires : tie.Need-record-words-requires
+record-words-requires c κs = search needs
 
-put-place-requires : tie.Need-put-place-requires
-put-place-requires c κs = search needs
+place-words-requires : tie.Need-place-words-requires
+place-words-requires c κs = search needs
 
 place-number-requires : tie.Need-place-number-requires
 place-number-requires c κs = search needs
 
 returns : tie.Need-returns
 returns c =
-    let start = c .before .before .before .before .before .before .before .before .before .before .args in
-    let got = c .before .before .before .before .before .before .ask .ensures ∙ ap (λ (r : Record). asked r (start .block)) (c .before .before .before .before .before .before .before .get-record .ensures) in
+    let told = c .before in
+    let put = told .before in
+    let got = answered (put .before) in
     record {
       answers = c .place-number .ensures ∙ ap (λ (answer : Asked). placeNumber (answer .place)) got;
-      keeps = c .before .before .before .put-record .ensures ∙ ap (λ (answer : Asked). recordWords (answer .back)) got;
-      says = c .before .put-place .ensures ∙ ap (λ (answer : Asked). placeWord (answer .place)) got;
+      back = put .record-words .ensures ∙ ap (λ (answer : Asked). recordWords (answer .back)) got;
+      says = told .place-words .ensures ∙ ap (λ (answer : Asked). placeWords (answer .place)) got;
     }
 
 pub foldgrebe-ask-spec : {M : Type 1} → statement M
 foldgrebe-ask-spec =
     tie.close
     (tie.spec
-    get-record-requires
+    record-of-requires
     ask-requires
-    put-record-requires
-    put-place-requires
+    record-words-requires
+    place-words-requires
     place-number-requires
     returns)

@@ -1,25 +1,40 @@
--- `foldgrebe_turn` meets its contract. Assumes nothing.
-use mathlib.Core.Path.{ap, _∙_}
+-- `foldgrebe_turn` meets its contract: what a turn of the record that was lent reports, the record that it makes, as words, and the image. Assumes nothing.
+use mathlib.Core.Path.{_≡_, ap, _∙_}
 use Rattle.patrol.specs.declared.Record.{Record}
 use Rattle.patrol.specs.declared.Turned.{Turned}
 use Rattle.patrol.specs.Turn.{turned, turnAfter}
 use Rattle.patrol.specs.Numbers.{reportNumber, reportWords}
-use Rattle.foldgrebe.specs.Words.{recordWords}
+use Rattle.words.specs.Records.{recordOf, recordWords}
 use borrow.Author.Needs.{needs}
 use Rattle.foldgrebe.proofs.patrol_calls.foldgrebe_turn.Statement.{statement}
 use Rattle.foldgrebe.proofs.patrol_calls.foldgrebe_turn.Tie as tie
 
-get-record-requires : tie.Need-get-record-requires
-get-record-requires c κs = search needs
+-- the start, from where the turn was answered, and the turn, from where the report is numbered
+abbrev start : tie.After-turn → tie.Start
+start c = c .before .before .before .before .before
+
+abbrev turn : tie.After-record-words → tie.After-turn
+turn c = c .before .before .before
+
+-- the record that the lent words hold
+held : (c : tie.After-turn) → c .before .before .record-of .result ≡ recordOf (start c .args .back .now)
+held c = c .before .before .record-of .ensures
+
+-- what was answered: the turn of that record
+answered : (c : tie.After-turn) → c .turn .result ≡ turned (recordOf (start c .args .back .now)) (start c .args .image .now)
+answered c = c .turn .ensures .answers ∙ ap (λ (r : Record). turned r (start c .args .image .now)) (held c)
+
+record-of-requires : tie.Need-record-of-requires
+record-of-requires c κs = search needs
 
 turn-requires : tie.Need-turn-requires
 turn-requires c κs = search needs
 
-put-record-requires : tie.Need-put-record-requires
-put-record-requires c κs = search needs
+record-words-requires : tie.Need-record-words-requires
+record-words-requires c κs = search needs
 
-put-report-requires : tie.Need-put-report-requires
-put-report-requires c κs = search needs
+report-words-requires : tie.Need-report-words-requires
+report-words-requires c κs = search needs
 
 report-number-requires : tie.Need-report-number-requires
 report-number-requires c κs = search needs
@@ -29,25 +44,25 @@ same-length c = search needs
 
 returns : tie.Need-returns
 returns c =
-    let image = c .before .before .before .before .before .before .before .before .before .before .before .before .before .before .args .image .now in
-    let kept = c .before .before .before .before .before .before .before .before .before .before .get-record .ensures in
-    let did = c .before .before .before .before .before .before .before .before .turn .ensures in
-    let got = did .answers ∙ ap (λ (r : Record). turned r image) kept in
+    let told = c .before in
+    let put = told .before in
+    let did = turn put in
+    let got = answered did in
     record {
       answers = c .report-number .ensures ∙ ap (λ (answer : Turned). reportNumber (answer .report)) got;
-      leaves = did .leaves ∙ ap (λ (r : Record). turnAfter r image) kept;
-      keeps = c .before .before .before .put-record .ensures ∙ ap (λ (answer : Turned). recordWords (answer .back)) got;
-      says = c .before .put-report .ensures ∙ ap (λ (answer : Turned). reportWords (answer .report)) got;
+      leaves = did .turn .ensures .leaves ∙ ap (λ (r : Record). turnAfter r (start did .args .image .now)) (held did);
+      back = put .record-words .ensures ∙ ap (λ (answer : Turned). recordWords (answer .back)) got;
+      says = told .report-words .ensures ∙ ap (λ (answer : Turned). reportWords (answer .report)) got;
     }
 
 pub foldgrebe-turn-spec : {M : Type 1} → statement M
 foldgrebe-turn-spec =
     tie.close
     (tie.spec
-    get-record-requires
+    record-of-requires
     turn-requires
-    put-record-requires
-    put-report-requires
+    record-words-requires
+    report-words-requires
     report-number-requires
     same-length
     returns)

@@ -1,7 +1,6 @@
--- `foldgrebe_visit` meets its contract. Assumes nothing.
+-- `foldgrebe_visit` meets its contract: what the store's visit answers, as words, and the image that it leaves. Assumes nothing.
 use mathlib.Core.Path.{ap, _∙_}
-use Rattle.store.specs.Answer.{answerNumber}
-use Rattle.foldgrebe.specs.Words.{verdictWords}
+use Rattle.store.specs.Answer.{answerNumber, answerWords}
 use borrow.Author.Needs.{needs}
 use Rattle.foldgrebe.proofs.store_calls.foldgrebe_visit.Statement.{statement}
 use Rattle.foldgrebe.proofs.store_calls.foldgrebe_visit.Tie as tie
@@ -9,8 +8,8 @@ use Rattle.foldgrebe.proofs.store_calls.foldgrebe_visit.Tie as tie
 visit-requires : tie.Need-visit-requires
 visit-requires c κs = search needs
 
-put-verdict-requires : tie.Need-put-verdict-requires
-put-verdict-requires c κs = search needs
+answer-words-requires : tie.Need-answer-words-requires
+answer-words-requires c κs = search needs
 
 answer-number-requires : tie.Need-answer-number-requires
 answer-number-requires c κs = search needs
@@ -20,14 +19,14 @@ same-length c = search needs
 
 returns : tie.Need-returns
 returns c =
-    let saw = c .before .before .before .before .before .visit .ensures in
+    let saw = c .before .before .before .before .visit .ensures in
     record {
       answers = c .answer-number .ensures ∙ ap answerNumber (saw .answers);
       leaves = saw .leaves;
-      says = c .before .put-verdict .ensures ∙ ap verdictWords (saw .answers);
+      says = c .before .answer-words .ensures ∙ ap answerWords (saw .answers);
     }
 
 pub foldgrebe-visit-spec : {M : Type 1} → statement M
 foldgrebe-visit-spec =
     tie.close
-    (tie.spec visit-requires put-verdict-requires answer-number-requires same-length returns)
+    (tie.spec visit-requires answer-words-requires answer-number-requires same-length returns)

@@ -1,4 +1,4 @@
--- `foldgrebe_write` meets its contract. Assumes nothing.
+-- `foldgrebe_write` meets its contract: what the store's write answers, as its number, and the image that it leaves. Assumes nothing.
 use mathlib.Core.Path.{ap, _∙_}
 use Rattle.store.specs.Answer.{answerNumber}
 use borrow.Author.Needs.{needs}

@@ -1,0 +1,29 @@
+-- A record as words: shape, s, G, next, how many wait, and then the places of its line. Assumes nothing.
+use Prim.Native.Nat.{ℕ, _+_}
+use mathlib.Core.List.{List, [], _∷_, _++_}
+use lib.ListN.{getD, take, drop}
+use Rattle.layout.specs.Layout.{layoutOf}
+use Rattle.rota.specs.Line.{places}
+use Rattle.patrol.specs.declared.Record.{Record}
+
+-- the words in front of the places, and all words of a record
+abbrev pub frontWidth : ℕ
+frontWidth = 5
+
+abbrev pub recordWidth : ℕ
+recordWidth = frontWidth + places
+
+-- the record that words hold
+abbrev pub recordOf : List ℕ → Record
+recordOf words =
+    record {
+      layout = layoutOf (getD words 0 0) (getD words 1 0) (getD words 2 0);
+      rota = record { next = getD words 3 0; line = record { waiting = getD words 4 0; asks = take places (drop frontWidth words) } };
+    }
+
+-- the words of a record: those in front, and the places
+abbrev pub frontWords : Record → List ℕ
+frontWords r = r .layout .shape ∷ r .layout .s ∷ r .layout .g ∷ r .rota .next ∷ r .rota .line .waiting ∷ []
+
+abbrev pub recordWords : Record → List ℕ
+recordWords r = frontWords r ++ r .rota .line .asks

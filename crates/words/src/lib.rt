@@ -1,0 +1,21 @@
+// Answers and records as words, and records back: what the face for C and the stored vectors share.
+mod answers;
+mod records;
+
+pub use answers::answer_number;
+pub use answers::answer_words;
+pub use answers::place_number;
+pub use answers::place_words;
+pub use answers::report_number;
+pub use answers::report_words;
+pub use records::record_of;
+pub use records::record_words;
+
+// The number of a verdict, and its count.
+pub const VERDICT_WORDS: usize = 2;
+
+// A block and its verdict, twice over.
+pub const REPORT_WORDS: usize = 2 + 2 * VERDICT_WORDS;
+
+// Shape, s, G, next, how many wait, and the places.
+pub const RECORD_WORDS: usize = 5 + rota::PLACES;
