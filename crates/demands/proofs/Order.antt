@@ -26,7 +26,7 @@ use Rattle.demands.specs.Steps.{Step, ask, turn, fresh, stepAfter, repor
 use Rattle.demands.specs.Demand3.{PatrolVisits, AskVisits, store, TurnsAccepted, EveryBlockVisited, AskServed}
 use Rattle.demands.proofs.Lasting.{fresh-size}
 use Rattle.demands.proofs.Refused.{given-formatted}
-use Rattle.demands.proofs.Parts.{Part, allParts, parts-append, parts-turns, whole-step, turn-alone}
+use Rattle.demands.proofs.Parts.{Part, allParts, parts-append, parts-turns, whole-step}
 use Rattle.demands.proofs.Simulated.{OfStore, run-stays, run-rota}
 
 -- ---- what a turn reports of the blocks that are due
@@ -109,7 +109,7 @@ module _ (image : List ℕ) (layout : Layout) (fits : imageRefusal (length image
   visited before during h block inside =
       let state = store image layout before in
       let found = round-complete (blocks layout) some-blocks (partsOf before) (allParts during state) (rw (parts-turns during state) h) block inside in
-      let at = whole-step rotaTurn turn turn-alone during state (found .0) (found .1) (found .2) in (
+      let at = whole-step rotaTurn turn refl during state (found .0) (found .1) (found .2) in (
         at .front,
         at .back,
         at .split,

@@ -2,29 +2,32 @@
 -- steps have as many turns as the list and write the same data, and each of them is a part of one step. Assumes nothing.
 use Prim.Native.Nat.{ℕ, zero, suc, _+_}
 use mathlib.Core.Path.{_≡_, refl, sym, ap, _∙_}
-use mathlib.Core.List.{List, [], _∷_, _++_, append-assoc, append-nil}
+use mathlib.Core.List.{List, [], _∷_, _++_, map, append-assoc, append-nil}
 use mathlib.Core.Logic.{⊎-elim}
 use native.Mathlib.Omega.{arith}
 use Rattle.ground.specs.Choice.{ifZero}
 use Rattle.rota.specs.Steps.{Step as RotaStep, ask as asks, turn as rotaTurn, other, turns as rotaTurns}
-use Rattle.rota.specs.Touches.{Touch, write as writes, read as reads, visit as visits, flip as flips, lastWritten as rotaWritten}
+use Rattle.rota.specs.Touches.{Touch, write as writes, read as reads, visit as visits, flip as flips, nothing, lastWritten as rotaWritten}
 use Rattle.rota.proofs.Runs.{turns-append}
 use Rattle.demands.specs.Steps.{Step, write, read, visit, ask, turn, flip, State, stepAfter, after, answers, tick, turns, meant, lastWritten}
 use Rattle.demands.proofs.Appended.{written-append}
 use Rattle.demands.proofs.Splits.{split-joined, split-none, split-one}
 
--- a step of the rota and the memory: data is a list of words, and a flip has an index and a bit
-abbrev pub Part : Type 0
-Part = RotaStep (Touch (List ℕ) (ℕ × ℕ))
+-- a touch of the memory: data is a list of words, and a flip has an index and a bit
+abbrev pub MemoryTouch : Type 0
+MemoryTouch = Touch (List ℕ) (ℕ × ℕ)
 
--- what an accepted call does, and what a refused one does not
-abbrev pub unless : ℕ → List Part → List Part
-unless number parts = ifZero number parts []
+abbrev pub Part : Type 0
+Part = RotaStep MemoryTouch
+
+-- a call that is accepted touches the memory; one that is refused does nothing
+abbrev pub calls : ℕ → List MemoryTouch → List Part
+calls number touches = ifZero number (map other touches) []
 
 abbrev pub parts : Step → State → List Part
-parts (write layout block list) state = unless (answers (write layout block list) state) (other (writes block list) ∷ [])
-parts (read layout block buffer) state = unless (answers (read layout block buffer) state) (other (reads block) ∷ [])
-parts (visit layout block) state = unless (answers (visit layout block) state) (other (visits block) ∷ [])
+parts (write layout block list) state = calls (answers (write layout block list) state) (writes block list ∷ [])
+parts (read layout block buffer) state = calls (answers (read layout block buffer) state) (reads block ∷ [])
+parts (visit layout block) state = calls (answers (visit layout block) state) (visits block ∷ [])
 parts (ask block) state = asks block ∷ []
 parts turn state = rotaTurn ∷ []
 parts (flip at bit) state = other (flips (at, bit)) ∷ []
@@ -43,17 +46,22 @@ parts-append (step ∷ before) rest state =
 
 -- ---- turns
 
--- a call is no turn
-call-turns : (number : ℕ) (touch : Touch (List ℕ) (ℕ × ℕ)) → rotaTurns (unless number (other touch ∷ [])) ≡ 0
+-- a call has no turn
+touch-turns : (touches : List MemoryTouch) → rotaTurns (map other touches) ≡ 0
 unfolding rotaTurns
-call-turns zero touch = refl
-call-turns (suc number) touch = refl
+touch-turns [] = refl
+touch-turns (touch ∷ rest) = touch-turns rest
+
+call-turns : (number : ℕ) (touches : List MemoryTouch) → rotaTurns (calls number touches) ≡ 0
+unfolding rotaTurns
+call-turns zero touches = touch-turns touches
+call-turns (suc number) touches = refl
 
 step-turns : (step : Step) (state : State) (count : ℕ) → rotaTurns (parts step state) + count ≡ tick step count
 unfolding rotaTurns
-step-turns (write layout block list) state count = rw (call-turns (answers (write layout block list) state) (writes block list)) (omega arith)
-step-turns (read layout block buffer) state count = rw (call-turns (answers (read layout block buffer) state) (reads block)) (omega arith)
-step-turns (visit layout block) state count = rw (call-turns (answers (visit layout block) state) (visits block)) (omega arith)
+step-turns (write layout block list) state count = rw (call-turns (answers (write layout block list) state) (writes block list ∷ [])) (omega arith)
+step-turns (read layout block buffer) state count = rw (call-turns (answers (read layout block buffer) state) (reads block ∷ [])) (omega arith)
+step-turns (visit layout block) state count = rw (call-turns (answers (visit layout block) state) (visits block ∷ [])) (omega arith)
 step-turns (ask block) state count = omega arith
 step-turns turn state count = omega arith
 step-turns (flip at bit) state count = omega arith
@@ -69,23 +77,24 @@ parts-turns (step ∷ rest) state =
 -- ---- data
 
 module _ (block : ℕ) where
-  call-written : (number : ℕ) (touch : Touch (List ℕ) (ℕ × ℕ)) (old : List ℕ)
-      → rotaWritten block old (unless number (other touch ∷ [])) ≡ ifZero number (rotaWritten block old (other touch ∷ [])) old
+  call-written : (number : ℕ) (touches : List MemoryTouch) (old : List ℕ)
+      → rotaWritten block old (calls number touches) ≡ ifZero number (rotaWritten block old (map other touches)) old
   unfolding rotaWritten
-  call-written zero touch old = refl
-  call-written (suc number) touch old = refl
+  call-written zero touches old = refl
+  call-written (suc number) touches old = refl
 
-  call-same : (number : ℕ) (old : List ℕ) → ifZero number old old ≡ old
-  call-same zero old = refl
-  call-same (suc number) old = refl
+  -- a call that writes nothing
+  call-unwritten : (number : ℕ) (touches : List MemoryTouch) (old : List ℕ) → rotaWritten block old (map other touches) ≡ old
+      → rotaWritten block old (calls number touches) ≡ old
+  unfolding rotaWritten
+  call-unwritten zero touches old e = e
+  call-unwritten (suc number) touches old e = refl
 
   step-written : (step : Step) (old : List ℕ) (state : State) → rotaWritten block old (parts step state) ≡ meant block old step state
   unfolding rotaWritten
-  step-written (write layout to list) old state = call-written (answers (write layout to list) state) (writes to list) old
-  step-written (read layout from buffer) old state =
-      call-written (answers (read layout from buffer) state) (reads from) old ∙ call-same (answers (read layout from buffer) state) old
-  step-written (visit layout at) old state =
-      call-written (answers (visit layout at) state) (visits at) old ∙ call-same (answers (visit layout at) state) old
+  step-written (write layout to list) old state = call-written (answers (write layout to list) state) (writes to list ∷ []) old
+  step-written (read layout from buffer) old state = call-unwritten (answers (read layout from buffer) state) (reads from ∷ []) old refl
+  step-written (visit layout at) old state = call-unwritten (answers (visit layout at) state) (visits at ∷ []) old refl
   step-written (ask asked) old state = refl
   step-written turn old state = refl
   step-written (flip at bit) old state = refl
@@ -147,77 +156,77 @@ part-of (step ∷ steps) state before part rest e =
     })
     (split-joined (parts step state) (allParts steps (stepAfter step state)) before part rest e)
 
--- a part that only one step has, which has no other
-abbrev pub Alone : Part → Step → Type 0
-Alone part step =
-    (other : Step) (state : State) (early late : List Part) → parts other state ≡ early ++ part ∷ late
-    → (other ≡ step) × (early ≡ []) × (late ≡ [])
+-- ---- a part that makes a step by itself
 
-pub record Whole (steps : List Step) (state : State) (before : List Part) (step : Step) (rest : List Part) : Type 0 where
-  pub front : List Step
-  pub back : List Step
-  pub split : steps ≡ front ++ step ∷ back
-  pub front-is : allParts front state ≡ before
-  pub back-is : allParts back (stepAfter step (after front state)) ≡ rest
+-- the step that it makes, if it makes one
+abbrev pub madeBy : Part → List Step
+madeBy (asks block) = ask block ∷ []
+madeBy rotaTurn = turn ∷ []
+madeBy (other (writes block list)) = []
+madeBy (other (reads block)) = []
+madeBy (other (visits block)) = []
+madeBy (other (flips f)) = flip (f .0) (f .1) ∷ []
+madeBy (other nothing) = []
 
-pub whole-step : (part : Part) (step : Step) → Alone part step → (steps : List Step) (state : State) (before rest : List Part)
-    → allParts steps state ≡ before ++ part ∷ rest → Whole steps state before step rest
-whole-step part step alone steps state before rest e =
-    let p = part-of steps state before part rest e in
-    let q = alone (p .step) (after (p .front) state) (p .early) (p .late) (p .is-part) in
-    record {
-      front = p .front;
-      back = p .back;
-      split = p .split ∙ ap (λ (x : Step). p .front ++ x ∷ p .back) (q .0);
-      front-is = sym (p .front-is ∙ ap (λ (l : List Part). allParts (p .front) state ++ l) (q .1) ∙ append-nil (allParts (p .front) state));
-      back-is =
-          ap (λ (x : Step). allParts (p .back) (stepAfter x (after (p .front) state))) (sym (q .0))
-          ∙ sym (p .back-is ∙ ap (λ (l : List Part). l ++ allParts (p .back) (stepAfter (p .step) (after (p .front) state))) (q .2));
-    }
+-- touches that make none
+abbrev Quiet : List MemoryTouch → Type 0
+Quiet [] = Unit {0}
+Quiet (touch ∷ rest) = (madeBy (other touch) ≡ []) × Quiet rest
 
--- ---- turns and flips are such parts
+touch-quiet : (touches : List MemoryTouch) → Quiet touches → (early : List Part) (part : Part) (late : List Part)
+    → map other touches ≡ early ++ part ∷ late → madeBy part ≡ []
+touch-quiet [] quiet early part late e = absurd (split-none early part late e)
+touch-quiet (touch ∷ rest) quiet [] part late e = let same : part ≡ other touch = cc in ap madeBy same ∙ quiet .0
+touch-quiet (touch ∷ rest) quiet (x ∷ early) part late e = touch-quiet rest (quiet .1) early part late (cc)
 
--- a call's only part is its touch
-call-part : (number : ℕ) (touch : Touch (List ℕ) (ℕ × ℕ)) (early : List Part) (part : Part) (late : List Part)
-    → unless number (other touch ∷ []) ≡ early ++ part ∷ late → other touch ≡ part
-call-part zero touch early part late e = split-one (other touch) early part late e .0
-call-part (suc number) touch early part late e = absurd (split-none early part late e)
+call-quiet : (number : ℕ) (touches : List MemoryTouch) → Quiet touches → (early : List Part) (part : Part) (late : List Part)
+    → calls number touches ≡ early ++ part ∷ late → madeBy part ≡ []
+call-quiet zero touches quiet early part late e = touch-quiet touches quiet early part late e
+call-quiet (suc number) touches quiet early part late e = absurd (split-none early part late e)
 
-pub turn-alone : Alone rotaTurn turn
-turn-alone (write layout block list) state early late e =
-    let p = call-part (answers (write layout block list) state) (writes block list) early rotaTurn late e in
-    let z : _≡_ {A = ℕ} 0 1 = cc in absurd (omega arith)
-turn-alone (read layout block buffer) state early late e =
-    let p = call-part (answers (read layout block buffer) state) (reads block) early rotaTurn late e in
-    let z : _≡_ {A = ℕ} 0 1 = cc in absurd (omega arith)
-turn-alone (visit layout block) state early late e =
-    let p = call-part (answers (visit layout block) state) (visits block) early rotaTurn late e in
-    let z : _≡_ {A = ℕ} 0 1 = cc in absurd (omega arith)
-turn-alone (ask block) state early late e =
-    let p = split-one (asks block) early rotaTurn late e .0 in
-    let z : _≡_ {A = ℕ} 0 1 = cc in absurd (omega arith)
-turn-alone turn state early late e = let p = split-one rotaTurn early rotaTurn late e in (refl, p .1, p .2)
-turn-alone (flip at bit) state early late e =
-    let p = split-one (other (flips (at, bit))) early rotaTurn late e .0 in
-    let z : _≡_ {A = ℕ} 0 1 = cc in absurd (omega arith)
+-- no other step has it, and that step has no other
+module _ (part : Part) (step : Step) (makes : madeBy part ≡ step ∷ []) where
+  abbrev Only : Step → List Part → List Part → Type 0
+  Only also early late = (also ≡ step) × (early ≡ []) × (late ≡ [])
 
-pub flip-alone : (f : ℕ × ℕ) → Alone (other (flips f)) (flip (f .0) (f .1))
-flip-alone f (write layout block list) state early late e =
-    let p = call-part (answers (write layout block list) state) (writes block list) early (other (flips f)) late e in
-    let z : _≡_ {A = ℕ} 0 1 = cc in absurd (omega arith)
-flip-alone f (read layout block buffer) state early late e =
-    let p = call-part (answers (read layout block buffer) state) (reads block) early (other (flips f)) late e in
-    let z : _≡_ {A = ℕ} 0 1 = cc in absurd (omega arith)
-flip-alone f (visit layout block) state early late e =
-    let p = call-part (answers (visit layout block) state) (visits block) early (other (flips f)) late e in
-    let z : _≡_ {A = ℕ} 0 1 = cc in absurd (omega arith)
-flip-alone f (ask block) state early late e =
-    let p = split-one (asks block) early (other (flips f)) late e .0 in
-    let z : _≡_ {A = ℕ} 0 1 = cc in absurd (omega arith)
-flip-alone f turn state early late e =
-    let p = split-one rotaTurn early (other (flips f)) late e .0 in
-    let z : _≡_ {A = ℕ} 0 1 = cc in absurd (omega arith)
-flip-alone f (flip at bit) state early late e =
-    let p = split-one (other (flips (at, bit))) early (other (flips f)) late e in
-    let q : (at, bit) ≡ f = cc in
-    (ap (λ (x : ℕ × ℕ). flip (x .0) (x .1)) q, p .1, p .2)
+  not-quiet : {A : Type 0} → madeBy part ≡ [] → A
+  not-quiet e = absurd (split-none [] step [] (sym e ∙ makes))
+
+  only-one : (x : Part) (also : Step) → madeBy x ≡ also ∷ [] → (early late : List Part) → x ∷ [] ≡ early ++ part ∷ late → Only also early late
+  only-one x also e early late f =
+      let p = split-one x early part late f in
+      (split-one also [] step [] (sym e ∙ ap madeBy (p .0) ∙ makes) .0, p .1, p .2)
+
+  alone : (also : Step) (state : State) (early late : List Part) → parts also state ≡ early ++ part ∷ late → Only also early late
+  alone (write layout block list) state early late e =
+      not-quiet (call-quiet (answers (write layout block list) state) (writes block list ∷ []) (refl, tt) early part late e)
+  alone (read layout block buffer) state early late e =
+      not-quiet (call-quiet (answers (read layout block buffer) state) (reads block ∷ []) (refl, tt) early part late e)
+  alone (visit layout block) state early late e =
+      not-quiet (call-quiet (answers (visit layout block) state) (visits block ∷ []) (refl, tt) early part late e)
+  alone (ask block) state early late e = only-one (asks block) (ask block) refl early late e
+  alone turn state early late e = only-one rotaTurn turn refl early late e
+  alone (flip at bit) state early late e = only-one (other (flips (at, bit))) (flip at bit) refl early late e
+
+  -- so a list of steps is split at that step
+  pub record Whole (steps : List Step) (state : State) (before rest : List Part) : Type 0 where
+    pub front : List Step
+    pub back : List Step
+    pub split : steps ≡ front ++ step ∷ back
+    pub front-is : allParts front state ≡ before
+    pub back-is : allParts back (stepAfter step (after front state)) ≡ rest
+
+  pub whole-step : (steps : List Step) (state : State) (before rest : List Part) → allParts steps state ≡ before ++ part ∷ rest
+      → Whole steps state before rest
+  whole-step steps state before rest e =
+      let p = part-of steps state before part rest e in
+      let q = alone (p .step) (after (p .front) state) (p .early) (p .late) (p .is-part) in
+      record {
+        front = p .front;
+        back = p .back;
+        split = p .split ∙ ap (λ (x : Step). p .front ++ x ∷ p .back) (q .0);
+        front-is = sym (p .front-is ∙ ap (λ (l : List Part). allParts (p .front) state ++ l) (q .1) ∙ append-nil (allParts (p .front) state));
+        back-is =
+            ap (λ (x : Step). allParts (p .back) (stepAfter x (after (p .front) state))) (sym (q .0))
+            ∙ sym (p .back-is ∙ ap (λ (l : List Part). l ++ allParts (p .back) (stepAfter (p .step) (after (p .front) state))) (q .2));
+      }

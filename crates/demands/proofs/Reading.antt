@@ -26,7 +26,7 @@ use Rattle.demands.specs.Demand3.{WordsWritten, store, OneLayout, FlipsS
 use Rattle.demands.proofs.SameBlocks.{zeros-fit}
 use Rattle.demands.proofs.Lasting.{store-size}
 use Rattle.demands.proofs.ImageMemory.{found}
-use Rattle.demands.proofs.Parts.{Part, unless, allParts, parts-append, parts-written}
+use Rattle.demands.proofs.Parts.{Part, calls, allParts, parts-append, parts-written}
 use Rattle.demands.proofs.Simulated.{read-number, LayoutFrom, memory, run-image}
 use Rattle.demands.proofs.Order.{partsOf, fresh-rota, fresh-stays, some-blocks}
 use Rattle.demands.proofs.Spaced.{parts-spaced}
@@ -105,7 +105,7 @@ module _ (image : List ℕ) (layout : Layout) (before rest : List Step) (block :
   unfolding allParts later
   read-part =
       parts-append before (read layout block buffer ∷ rest) (fresh image layout)
-      ∙ ap (λ (number : ℕ). partsOf image layout fits before ++ (unless number (other (reads block) ∷ []) ++ allParts rest (store image layout before)))
+      ∙ ap (λ (number : ℕ). partsOf image layout fits before ++ (calls number (reads block ∷ []) ++ allParts rest (store image layout before)))
       (read-number layout block (store image layout before) buffer ∙ passed)
 
   found-last : found (length image) layout fits block (store image layout before .image) ≡ (0, dataOf (shapeOf layout) (validBlock (shapeOf layout) last))

@@ -2,7 +2,7 @@
 -- as the memory, where every accepted call names the store's layout. Assumes nothing.
 use Prim.Native.Nat.{ℕ, zero, suc}
 use mathlib.Core.Path.{_≡_, refl, sym, ap, ap₂, _∙_}
-use mathlib.Core.List.{List, [], _∷_, _++_}
+use mathlib.Core.List.{List, [], _∷_, _++_, map}
 use lib.ListN.{length}
 use Rattle.ground.specs.Choice.{ifZero}
 use Rattle.block.specs.Block.{validBlock}
@@ -17,7 +17,7 @@ use Rattle.rota.specs.Memory.{Memory}
 use Rattle.rota.specs.Patrol.{visited, memoryRun}
 use Rattle.rota.specs.Record.{rotaTurned}
 use Rattle.rota.specs.Steps.{other, rotaRun}
-use Rattle.rota.specs.Touches.{Touch, write as writes, read as reads, visit as visits}
+use Rattle.rota.specs.Touches.{write as writes, read as reads, visit as visits}
 use Rattle.store.specs.Image.{placed}
 use Rattle.store.specs.Refusal.{dataRefusal}
 use Rattle.store.specs.Visit.{visitAnswer, visitAfter}
@@ -31,7 +31,7 @@ use Rattle.demands.specs.Demand3.{SameLayout}
 use Rattle.demands.proofs.Lasting.{step-size, step-layout}
 use Rattle.demands.proofs.ImageMemory.{imageMemory}
 use Rattle.demands.proofs.Appended.{rota-append, memory-append}
-use Rattle.demands.proofs.Parts.{unless, parts, allParts}
+use Rattle.demands.proofs.Parts.{MemoryTouch, calls, parts, allParts}
 
 -- ---- a call is accepted where its refusal is 0
 
@@ -82,18 +82,23 @@ module _ (len : ℕ) (layout : Layout) (fits : imageRefusal len layout ≡ 0) wh
 
   -- ---- a step
 
-  -- a touch leaves the rota
-  call-rota : (number : ℕ) (touch : Touch (List ℕ) (ℕ × ℕ)) (rota : Rota) → rota ≡ rotaRun (blocks layout) (unless number (other touch ∷ [])) rota
+  -- a call leaves the rota
+  touch-rota : (touches : List MemoryTouch) (rota : Rota) → rota ≡ rotaRun (blocks layout) (map other touches) rota
   unfolding rotaRun
-  call-rota zero touch rota = refl
-  call-rota (suc number) touch rota = refl
+  touch-rota [] rota = refl
+  touch-rota (touch ∷ rest) rota = touch-rota rest rota
+
+  call-rota : (number : ℕ) (touches : List MemoryTouch) (rota : Rota) → rota ≡ rotaRun (blocks layout) (calls number touches) rota
+  unfolding rotaRun
+  call-rota zero touches rota = touch-rota touches rota
+  call-rota (suc number) touches rota = refl
 
   pub step-rota : (step : Step) (state : State) → OfStore state
       → stepAfter step state .patrol .rota ≡ rotaRun (blocks layout) (parts step state) (state .patrol .rota)
   unfolding asked turned rotaRun
-  step-rota (write named block list) state ok = call-rota (answers (write named block list) state) (writes block list) (state .patrol .rota)
-  step-rota (read named block buffer) state ok = call-rota (answers (read named block buffer) state) (reads block) (state .patrol .rota)
-  step-rota (visit named block) state ok = call-rota (answers (visit named block) state) (visits block) (state .patrol .rota)
+  step-rota (write named block list) state ok = call-rota (answers (write named block list) state) (writes block list ∷ []) (state .patrol .rota)
+  step-rota (read named block buffer) state ok = call-rota (answers (read named block buffer) state) (reads block ∷ []) (state .patrol .rota)
+  step-rota (visit named block) state ok = call-rota (answers (visit named block) state) (visits block ∷ []) (state .patrol .rota)
   step-rota (ask block) state ok = rw (ok .names, image-layout layout len fits)
   step-rota turn state ok = rw (ok .names, ok .size, fits)
   step-rota (flip at bit) state ok = refl
@@ -108,12 +113,12 @@ module _ (len : ℕ) (layout : Layout) (fits : imageRefusal len layout ≡ 0) wh
       where
         go : (number : ℕ) → answers (write named block list) state ≡ number
             → ifZero number (placed named block (validBlock (shapeOf named) list) (state .image)) (state .image)
-            ≡ memoryRun memory (unless number (other (writes block list) ∷ [])) (state .patrol .rota) (state .image)
+            ≡ memoryRun memory (calls number (writes block list ∷ [])) (state .patrol .rota) (state .image)
         go zero e = rw (same e)
         go (suc number) e = refl
 
     read-parts : (number block : ℕ)
-        → state .image ≡ memoryRun memory (unless number (other (reads block) ∷ [])) (state .patrol .rota) (state .image)
+        → state .image ≡ memoryRun memory (calls number (reads block ∷ [])) (state .patrol .rota) (state .image)
     unfolding memoryRun
     read-parts zero block = refl
     read-parts (suc number) block = refl
@@ -126,7 +131,7 @@ module _ (len : ℕ) (layout : Layout) (fits : imageRefusal len layout ≡ 0) wh
       where
         go : (number : ℕ) → answers (visit named block) state ≡ number
             → visitAfter (state .image) named block
-            ≡ memoryRun memory (unless number (other (visits block) ∷ [])) (state .patrol .rota) (state .image)
+            ≡ memoryRun memory (calls number (visits block ∷ [])) (state .patrol .rota) (state .image)
         go zero e = rw (same e)
         go (suc number) e = unfold visitAfter in rw (sym (visit-number named block state) ∙ e)
 

@@ -1,6 +1,6 @@
 -- Flips that lie apart in the store lie apart in the memory: an index is a row of one block, and its lane there is its bit. Assumes nothing.
 use Prim.Native.Nat.{ℕ, suc}
-use mathlib.Core.Path.{_≡_, sym, ap, _∙_, subst}
+use mathlib.Core.Path.{_≡_, refl, sym, ap, _∙_, subst}
 use mathlib.Core.List.{List, _∷_, _++_}
 use native.Mathlib.Omega.{arith}
 use lib.ListN.{length}
@@ -13,7 +13,7 @@ use Rattle.rota.specs.Touches.{flip as flips}
 use Rattle.demands.specs.Steps.{Step, flip, fresh, stepAfter, after}
 use Rattle.demands.specs.Demand3.{RowOf, FlipsSpaced}
 use Rattle.demands.proofs.Index.{blockAt, rowAt, row-below, index-at}
-use Rattle.demands.proofs.Parts.{parts-turns, whole-step, flip-alone}
+use Rattle.demands.proofs.Parts.{parts-turns, whole-step}
 use Rattle.demands.proofs.Simulated.{memory}
 use Rattle.demands.proofs.Order.{partsOf}
 
@@ -26,8 +26,8 @@ module _ (image : List ℕ) (layout : Layout) (fits : imageRefusal (length image
   pub parts-spaced : (steps : List Step) → FlipsSpaced image layout steps → Spaced (memory (length image) layout fits) (partsOf image layout fits steps)
   parts-spaced steps spaced pre mid post f h e same =
       let start = fresh image layout in
-      let later = whole-step (other (flips h)) (flip (h .0) (h .1)) (flip-alone h) steps start (pre ++ other (flips f) ∷ mid) post e in
-      let earlier = whole-step (other (flips f)) (flip (f .0) (f .1)) (flip-alone f) (later .front) start pre mid (later .front-is) in
+      let later = whole-step (other (flips h)) (flip (h .0) (h .1)) refl steps start (pre ++ other (flips f) ∷ mid) post e in
+      let earlier = whole-step (other (flips f)) (flip (f .0) (f .1)) refl (later .front) start pre mid (later .front-is) in
       let between = stepAfter (flip (f .0) (f .1)) (after (earlier .front) start) in
       let whole : steps ≡ earlier .front ++ flip (f .0) (h .1) ∷ earlier .back ++ flip (h .0) (h .1) ∷ later .back =
       later .split
