@@ -18,6 +18,7 @@ use Rattle.block.specs.Words.{number}
 use Rattle.block.specs.Block.{dataBlock, validBlock, mendedBlock}
 use Rattle.block.specs.Verdict.{verdictOf, verdictNumber, verdictCount}
 use Rattle.block.specs.Inner.{xorOver, sumsOf, anyOf, aboveOf, lostLanes, flippedIn, xorAll, withChecks}
+use Rattle.layout.specs.Layout.{shapeNumbered}
 use Rattle.block.proofs.ByWords.{fit?, bits, written, lost-by-words, mended-by-words}
 use Rattle.demands.specs.Examples.{Example, examples, upTo, mended, lost}
 
@@ -54,7 +55,7 @@ module _ (shape : Shape) where
         said found _ _ (mended-by-words shape found fit long z (λ q. omega (arith, s))) ∙ ap₂ (λ (k : ℕ) (l : List ℕ). mended ∷ k ∷ l) c e
 
 pub all-hold : map (λ (e : Example). e .gives) examples ≡ map (λ (e : Example). e .must) examples
-unfolding examples upTo dataBlock stores listOf number total xorOver anyOf aboveOf flippedIn xorAll withChecks power? rowsWhere bit fit?
+unfolding examples upTo dataBlock stores listOf number total xorOver anyOf aboveOf flippedIn xorAll withChecks power? rowsWhere bit fit? shapeNumbered
 all-hold =
     ap₂ _∷_ (wrote _ _ _ refl refl)
     (ap₂ _∷_ (wrote _ _ _ refl refl)

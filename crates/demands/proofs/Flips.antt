@@ -12,9 +12,9 @@ use lib.ListN.{length, getD, set, length-set}
 use lib.Pow.{pow-lt}
 use lib.Seq.{set-out, getD-set-same, getD-set-other}
 use borrow.Author.Tests.{ltb-true}
-use Rattle.lane.specs.Bit.{bit, _⊕_, pick}
+use Rattle.lane.specs.Bit.{bit, _⊕_}
 use Rattle.lane.specs.Lane.{Lane, count}
-use Rattle.lane.proofs.Bits.{bit-xor, ⊕-zero}
+use Rattle.lane.proofs.Bits.{bit-xor, ⊕-zero, pick-one}
 use Rattle.lane.proofs.Linear.{count-same}
 use Rattle.lane.proofs.Mended.{count-empty}
 use Rattle.lane.proofs.Rows.{power-apart, split-below}
@@ -73,11 +73,7 @@ count-single (suc n) f r h =
     by-cases (ℕ-discrete n r)
     (λ e.
     let z = count-same n f (λ p. false) (λ j l. h j (omega arith) (λ q. omega arith)) ∙ count-empty n in
-    omega (arith, at-most (f (suc n))))
+    omega (arith, pick-one (f (suc n))))
     (λ ne.
     let c = count-single n f r (λ j l. h j (omega arith)) in
     rw (h n (omega arith) ne) (omega arith))
-  where
-    at-most : (b : Bool) → pick b 1 ≤ 1
-    at-most true = omega arith
-    at-most false = omega arith

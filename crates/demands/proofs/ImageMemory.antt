@@ -1,12 +1,12 @@
 -- An image of words is a memory of blocks: its lanes are the bits of each block, and a flip damages one of them. Assumes nothing.
-use Prim.Native.Nat.{ℕ, suc, _≤_, _<_}
+use Prim.Native.Nat.{ℕ, suc, _*_, _≤_, _<_}
 use mathlib.Core.Bool.{Bool}
 use mathlib.Core.Path.{_≡_, refl, sym, ap, _∙_}
 use mathlib.Core.List.{List}
 use mathlib.Core.Logic.{by-cases}
 use native.Mathlib.Decide.{ℕ-discrete}
 use native.Mathlib.Omega.{arith}
-use lib.ListN.{length, replicate, length-replicate}
+use lib.ListN.{length, getD, replicate, length-replicate}
 use Rattle.lane.specs.Bit.{bit, _⊕_}
 use Rattle.lane.specs.Lane.{diff, apart}
 use Rattle.lane.proofs.Distance.{empty}
@@ -18,17 +18,19 @@ use Rattle.block.specs.Block.{lanesLost, mendedBlock, validBlock, dataOf, Near,
 use Rattle.block.proofs.Blocks.{near-none, near-rows, mended-fits}
 use Rattle.block.proofs.Judged.{rows-fit}
 use Rattle.block.proofs.ValidBlocks.{length-valid, valid-out, valid-fits, valid-is}
+use Rattle.layout.specs.declared.Layout.{Layout}
+use Rattle.layout.specs.Layout.{shapeOf, rowsOf, blocks, index}
+use Rattle.layout.specs.Refusal.{imageRefusal}
+use Rattle.layout.proofs.Index.{in-range}
+use Rattle.layout.proofs.Ladder.{geometry, image-layout, image-exact, block-accepted}
 use Rattle.rota.specs.Memory.{Memory}
 use Rattle.store.specs.Image.{gathered, placed}
-use Rattle.store.specs.Layout.{blocks, index}
-use Rattle.store.specs.Refusal.{layoutRefusal}
-use Rattle.store.specs.Shapes.{shapeOf}
+use Rattle.store.specs.Fresh.{freshImage}
 use Rattle.store.specs.Visit.{visitAfter}
 use Rattle.store.proofs.After.{visit-untouched, visit-words, visit-held}
 use Rattle.store.proofs.Image.{length-gathered, gathered-row, gathered-words, length-placed, placed-words, placed-untouched, gathered-placed}
 use Rattle.demands.specs.Steps.{flipped}
 use Rattle.demands.proofs.Index.{blockAt, rowAt, only-at}
-use Rattle.demands.proofs.Geometry.{bounds, visit-accepted, rows-inside}
 use Rattle.demands.proofs.SameBlocks.{same-apart, same-data, zeros-at, zeros-fit, zeros-block}
 use Rattle.demands.proofs.Flips.{length-flipped, flipped-words, other-bit, count-single}
 
@@ -42,9 +44,12 @@ pair? u v =
     (λ nf. no (λ p. nf (ap (λ (x : ℕ × ℕ). x .1) p))))
     (λ ne. no (λ p. ne (ap (λ (x : ℕ × ℕ). x .0) p)))
 
-module _ (len shape s g : ℕ) (fits : layoutRefusal len shape s g ≡ 0) where
+module _ (len : ℕ) (layout : Layout) (fits : imageRefusal len layout ≡ 0) where
   abbrev kind : Shape
-  kind = shapeOf shape
+  kind = shapeOf layout
+
+  pub first : 1 ≤ layout .s
+  first = geometry layout (image-layout layout len fits) .s-first
 
   -- the image keeps its length, and its words are words
   pub record Sound (image : List ℕ) : Type 0 where
@@ -54,18 +59,18 @@ module _ (len shape s g : ℕ) (fits : layoutRefusal len shape s g ≡ 0) where
   -- a lane is a block and a bit; how far it is from the lane where the data is written
   abbrev pub OffBy : ℕ → List ℕ → ℕ × ℕ → List ℕ → Type 0
   OffBy k image u list =
-      u .1 < 32 → apart (before kind) (lane (u .1) (gathered kind s (u .0) image)) (lane (u .1) (validBlock kind list)) ≤ k
+      u .1 < 32 → apart (before kind) (lane (u .1) (gathered layout (u .0) image)) (lane (u .1) (validBlock kind list)) ≤ k
 
   -- what a read finds: the lanes lost, and the data of the mended block
   abbrev pub found : ℕ → List ℕ → ℕ × List ℕ
   found block image =
-      (lanesLost kind (gathered kind s block image), dataOf kind (mendedBlock kind (gathered kind s block image)))
+      (lanesLost kind (gathered layout block image), dataOf kind (mendedBlock kind (gathered layout block image)))
 
-  pub as-meant : (image : List ℕ) (u : ℕ × ℕ) (list : List ℕ) → SameRows kind (gathered kind s (u .0) image) (validBlock kind list) → OffBy 0 image u list
-  as-meant image u list h l = omega (arith, same-apart kind (gathered kind s (u .0) image) (validBlock kind list) h (u .1))
+  pub as-meant : (image : List ℕ) (u : ℕ × ℕ) (list : List ℕ) → SameRows kind (gathered layout (u .0) image) (validBlock kind list) → OffBy 0 image u list
+  as-meant image u list h l = omega (arith, same-apart kind (gathered layout (u .0) image) (validBlock kind list) h (u .1))
 
   -- where a block is gathered as before, its lanes are as far off as before
-  pub unmoved : (k : ℕ) (image new : List ℕ) (u : ℕ × ℕ) (list : List ℕ) → gathered kind s (u .0) new ≡ gathered kind s (u .0) image
+  pub unmoved : (k : ℕ) (image new : List ℕ) (u : ℕ × ℕ) (list : List ℕ) → gathered layout (u .0) new ≡ gathered layout (u .0) image
       → OffBy k image u list → OffBy k new u list
   unmoved k image new u list e off = rw e off
 
@@ -73,10 +78,10 @@ module _ (len shape s g : ℕ) (fits : layoutRefusal len shape s g ≡ 0) where
 
   module _ (block : ℕ) (image list : List ℕ) (ok : Sound image) (off : (u : ℕ × ℕ) → u .0 ≡ block → OffBy 1 image u list) where
     abbrev here : List ℕ
-    here = gathered kind s block image
+    here = gathered layout block image
 
     long : rows kind ≤ length here
-    long = rw (length-gathered kind s block image) (rows-fit kind)
+    long = rw (length-gathered layout block image) (rows-fit kind)
 
     near : Near kind here (validBlock kind list)
     near i h = off (block, i) refl h
@@ -87,7 +92,7 @@ module _ (len shape s g : ℕ) (fits : layoutRefusal len shape s g ≡ 0) where
     pub mended-rows : SameRows kind (mendedBlock kind here) (validBlock kind list)
     mended-rows =
         near-rows kind here long (validBlock kind list) (valid-is kind list) near
-        (mended-fits kind here (gathered-words kind s block image (ok .small)))
+        (mended-fits kind here (gathered-words layout block image (ok .small)))
         (valid-fits kind list)
 
     pub found-right : found block image ≡ (0, dataOf kind (validBlock kind list))
@@ -97,36 +102,48 @@ module _ (len shape s g : ℕ) (fits : layoutRefusal len shape s g ≡ 0) where
 
   module _ (at place : ℕ) (image : List ℕ) (u : ℕ × ℕ) where
     -- a row of the lane is as it was, unless the flip is in that lane and that row
-    row-kept : (k : ℕ) → k < rows kind → (u .0 ≡ blockAt (rows kind) s at → k ≡ rowAt (rows kind) s at → u .1 ≡ place → ⊥)
-        → lane (u .1) (gathered kind s (u .0) (flipped at place image)) (suc k) ≡ lane (u .1) (gathered kind s (u .0) image) (suc k)
+    row-kept : (k : ℕ) → k < rows kind → (u .0 ≡ blockAt layout at → k ≡ rowAt layout at → u .1 ≡ place → ⊥)
+        → lane (u .1) (gathered layout (u .0) (flipped at place image)) (suc k) ≡ lane (u .1) (gathered layout (u .0) image) (suc k)
     row-kept k h ne =
-        ap (bit (u .1)) (gathered-row kind s (u .0) (flipped at place image) k h)
-        ∙ other-bit at place image (index (rows kind) s (u .0) (suc k)) (u .1)
-        (λ e f. let q = only-at (rows kind) s (omega arith) (bounds len shape s g fits .s-first) at (u .0) k h e in ne (q .0) (q .1) f)
-        ∙ sym (ap (bit (u .1)) (gathered-row kind s (u .0) image k h))
+        ap (bit (u .1)) (gathered-row layout (u .0) (flipped at place image) k h)
+        ∙ other-bit at place image (index layout (u .0) (suc k)) (u .1)
+        (λ e f. let q = only-at layout first at (u .0) k h e in ne (q .0) (q .1) f)
+        ∙ sym (ap (bit (u .1)) (gathered-row layout (u .0) image k h))
 
-    pub flip-elsewhere : ((blockAt (rows kind) s at, place) ≡ u → ⊥) → (list : List ℕ) (k : ℕ) → OffBy k image u list → OffBy k (flipped at place image) u list
+    pub flip-elsewhere : ((blockAt layout at, place) ≡ u → ⊥) → (list : List ℕ) (k : ℕ) → OffBy k image u list → OffBy k (flipped at place image) u list
     flip-elsewhere ne list k off l =
         omega (
           arith,
           off l,
           count-same (rows kind)
-              (diff (lane (u .1) (gathered kind s (u .0) (flipped at place image))) (lane (u .1) (validBlock kind list)))
-              (diff (lane (u .1) (gathered kind s (u .0) image)) (lane (u .1) (validBlock kind list)))
+              (diff (lane (u .1) (gathered layout (u .0) (flipped at place image))) (lane (u .1) (validBlock kind list)))
+              (diff (lane (u .1) (gathered layout (u .0) image)) (lane (u .1) (validBlock kind list)))
               (λ j h.
               ap (λ (b : Bool). b ⊕ lane (u .1) (validBlock kind list) (suc j)) (row-kept j h (λ e r f. ne (λ i. (sym e i, sym f i))))),
         )
 
     pub flip-there : (list : List ℕ) → OffBy 0 image u list → OffBy 1 (flipped at place image) u list
     flip-there list off l =
-        count-single (rows kind) (diff (lane (u .1) (gathered kind s (u .0) (flipped at place image))) (lane (u .1) (validBlock kind list))) (rowAt (rows kind) s at)
+        count-single (rows kind) (diff (lane (u .1) (gathered layout (u .0) (flipped at place image))) (lane (u .1) (validBlock kind list))) (rowAt layout at)
         (λ j h ne.
         ap (λ (b : Bool). b ⊕ lane (u .1) (validBlock kind list) (suc j)) (row-kept j h (λ e r f. ne r))
-        ∙ empty (rows kind) (diff (lane (u .1) (gathered kind s (u .0) image)) (lane (u .1) (validBlock kind list))) (omega (arith, off l)) j h)
+        ∙ empty (rows kind) (diff (lane (u .1) (gathered layout (u .0) image)) (lane (u .1) (validBlock kind list))) (omega (arith, off l)) j h)
+
+  -- ---- a fresh image
+
+  pub fresh-word : (k : ℕ) → getD (freshImage layout) k 0 ≡ 0
+  unfolding freshImage
+  fresh-word k = zeros-at (rowsOf layout * blocks layout) k
+
+  pub fresh-sound : Sound (freshImage layout)
+  unfolding freshImage
+  fresh-sound =
+      let size = rowsOf layout * blocks layout in
+      record { size = length-replicate size 0 ∙ sym (image-exact layout len fits); small = zeros-fit size }
 
   -- ---- the memory
 
-  abbrev pub imageMemory : Memory (blocks s g)
+  abbrev pub imageMemory : Memory (blocks layout)
   imageMemory =
       record {
         State = List ℕ;
@@ -135,47 +152,49 @@ module _ (len shape s g : ℕ) (fits : layoutRefusal len shape s g ≡ 0) where
         Data = List ℕ;
         Answer = ℕ × List ℕ;
         block = λ u. u .0;
-        lane = λ f. (blockAt (rows kind) s (f .0), f .1);
+        lane = λ f. (blockAt layout (f .0), f .1);
         lane? = pair?;
         zeros = replicate (words kind) 0;
-        fresh = replicate len 0;
-        visit = λ block image. visitAfter image shape s g block;
-        write = λ block list image. placed kind s block (validBlock kind list) image;
+        fresh = freshImage layout;
+        visit = λ block image. visitAfter image layout block;
+        write = λ block list image. placed layout block (validBlock kind list) image;
         flip = λ f. flipped (f .0) (f .1);
         read = found;
         gives = λ list. (0, dataOf kind (validBlock kind list));
         Good = Sound;
-        fresh-good = record { size = length-replicate len 0; small = zeros-fit len };
-        visit-good = λ block image ok. record { size = visit-untouched image shape s g block .size ∙ ok .size; small = visit-words image shape s g block (ok .small) };
+        fresh-good = fresh-sound;
+        visit-good = λ block image ok.
+            record { size = visit-untouched image layout block .size ∙ ok .size; small = visit-words image layout block (ok .small) };
         write-good = λ block list image ok.
             record {
-              size = length-placed kind s block (validBlock kind list) image ∙ ok .size;
-              small = placed-words kind s block (validBlock kind list) image (valid-fits kind list) (ok .small);
+              size = length-placed layout block (validBlock kind list) image ∙ ok .size;
+              small = placed-words layout block (validBlock kind list) image (valid-fits kind list) (ok .small);
             };
         flip-good = λ f image ok. record { size = length-flipped (f .0) (f .1) image ∙ ok .size; small = flipped-words (f .0) (f .1) image (ok .small) };
         Off = OffBy;
         off-more = λ image u list ok off l. omega (arith, off l);
         fresh-zeros = λ u l.
-            as-meant (replicate len 0) u (replicate (words kind) 0)
-            (zeros-block kind (gathered kind s (u .0) (replicate len 0)) (gathered-words kind s (u .0) (replicate len 0) (zeros-fit len))
-            (λ j h. gathered-row kind s (u .0) (replicate len 0) j h ∙ zeros-at len (index (rows kind) s (u .0) (suc j))));
+            as-meant (freshImage layout) u (replicate (words kind) 0)
+            (zeros-block kind (gathered layout (u .0) (freshImage layout)) (gathered-words layout (u .0) (freshImage layout) (fresh-sound .small))
+            (λ j h. gathered-row layout (u .0) (freshImage layout) j h ∙ fresh-word (index layout (u .0) (suc j))));
         visit-here = λ block image list ok l off u e.
-            as-meant (visitAfter image shape s g block) u list
-            (rw (e, visit-held image shape s g block (rw (ok .size) (visit-accepted len shape s g fits block l))) (mended-rows block image list ok off));
-        visit-away = λ block image u list ok ne k off. unmoved k image (visitAfter image shape s g block) u list (visit-untouched image shape s g block .others (u .0) ne) off;
+            as-meant (visitAfter image layout block) u list
+            (rw (e, visit-held image layout block (rw (ok .size) (block-accepted layout len block fits l))) (mended-rows block image list ok off));
+        visit-away = λ block image u list ok ne k off.
+            unmoved k image (visitAfter image layout block) u list (visit-untouched image layout block .others (u .0) ne) off;
         write-here = λ block list image u ok l e.
-            as-meant (placed kind s block (validBlock kind list) image) u list
+            as-meant (placed layout block (validBlock kind list) image) u list
             (rw (
               e,
-              gathered-placed kind s block (bounds len shape s g fits .s-first) (validBlock kind list) image
-                  (λ p a b. rw (ok .size) (rows-inside len shape s g fits block l p a b))
+              gathered-placed layout block (first) (validBlock kind list) image
+                  (λ p a b. rw (ok .size, image-exact layout len fits) (in-range (rowsOf layout) (layout .s) first (layout .g) block p l a b))
                   (length-valid kind list)
                   (valid-out kind list),
             )
             (λ j h. refl));
         write-away = λ block new image u list ok ne k off.
-            unmoved k image (placed kind s block (validBlock kind new) image) u list
-            (placed-untouched kind s block (bounds len shape s g fits .s-first) (validBlock kind new) image .others (u .0) ne)
+            unmoved k image (placed layout block (validBlock kind new) image) u list
+            (placed-untouched layout block (first) (validBlock kind new) image .others (u .0) ne)
             off;
         flip-here = λ f image u list ok e off. flip-there (f .0) (f .1) image u list off;
         flip-away = λ f image u list ok ne k off. flip-elsewhere (f .0) (f .1) image u ne list k off;

@@ -1,19 +1,19 @@
-mod FirstRule
-pub mod Refusals
+pub mod Demand1
 pub mod OneBlock
-pub mod Mending
+pub mod Demand2
 pub mod OneResult
 pub mod Examples
 pub mod Index
-pub mod Geometry
 pub mod Flips
 pub mod SameBlocks
 pub mod ImageMemory
-pub mod Sizes
+pub mod Lasting
 pub mod Promised
 pub mod Refused
-pub mod Simulated
+pub mod Appended
 pub mod Splits
+pub mod Parts
+pub mod Simulated
 pub mod Written
 pub mod Order
 pub mod Spaced

@@ -1,26 +1,26 @@
 -- Demand 2 of one block: what it is mended to, and what the verdict says of it. Assumes nothing.
-use Prim.Native.Nat.{ℕ, zero, suc, _≤_, _<_}
+use Prim.Native.Nat.{ℕ, zero, suc, _≤_}
 use mathlib.Core.Path.{_≡_, refl, sym, ap, subst, _∙_}
-use mathlib.Core.Bool.{Bool}
+use mathlib.Core.Bool.{false}
 use mathlib.Core.List.{List}
 use native.Mathlib.Omega.{arith}
 use lib.ListN.{length}
-use Rattle.lane.specs.Bit.{bit, _⊕_, pick}
+use Rattle.lane.specs.Bit.{bit, _⊕_}
 use Rattle.lane.specs.Lane.{diff}
 use Rattle.lane.specs.Decision.{decide, lost?}
+use Rattle.lane.proofs.Bits.{pick-one}
 use Rattle.lane.proofs.Linear.{count-same}
 use Rattle.lane.proofs.Mended.{⊕-self, count-empty, valid-near}
 use Rattle.block.specs.declared.Shape.{Shape}
 use Rattle.block.specs.Shape.{before, rows}
-use Rattle.ground.specs.Totals.{total}
 use Rattle.block.specs.Words.{lane}
 use Rattle.block.specs.Block.{ValidBlock, lanesLost, bitsChanged, mendedBlock, Fitting, Near, SameRows}
-use Rattle.ground.proofs.Totals.{total-same, total-zero}
+use Rattle.ground.proofs.Totals.{total-same, total-zero, total-few}
 use Rattle.block.specs.Verdict.{verdictNumber, verdictCount, verdict, verdictOf}
 use Rattle.block.proofs.Blocks.{kept-valid, kept-near, near-none, near-rows, mended-fits}
 use Rattle.store.specs.declared.Answer.the-variants.{Found}
 use Rattle.store.proofs.Verdicts.{clean-left}
-use Rattle.demands.specs.Mending.{Meant, Mends}
+use Rattle.demands.specs.Demand2.{Meant, Mends}
 
 -- ---- the verdict by the numbers of lanes lost and bits changed
 
@@ -57,19 +57,9 @@ counts (suc lost) changed l c ne = (omega arith, l)
 
 -- ---- a block found
 
--- a total of n values that are at most 1
-total-few : (n : ℕ) (f : ℕ → ℕ) → ((i : ℕ) → i < n → f i ≤ 1) → total n f ≤ n
-unfolding total
-total-few zero f h = omega arith
-total-few (suc n) f h = omega (arith, total-few n f (λ i l. h i (omega arith)), h n (omega arith))
-
-pick-few : (b : Bool) → pick b 1 ≤ 1
-pick-few Bool.true = omega arith
-pick-few Bool.false = omega arith
-
 few-lost : (shape : Shape) (block : List ℕ) → lanesLost shape block ≤ 32
 unfolding lanesLost
-few-lost shape block = total-few 32 _ (λ i h. pick-few (lost? (decide (before shape) (lane i block))))
+few-lost shape block = total-few 32 _ (λ i h. pick-one (lost? (decide (before shape) (lane i block))))
 
 few-changed : (shape : Shape) (old new : List ℕ) → Near shape old new → bitsChanged shape old new ≤ 32
 unfolding bitsChanged
@@ -81,7 +71,7 @@ unfolding bitsChanged
 same-bits shape a b same =
     total-same 32 _ (λ i. 0)
     (λ i h.
-    count-same (rows shape) (diff (lane i a) (lane i b)) (λ p. Bool.false)
+    count-same (rows shape) (diff (lane i a) (lane i b)) (λ p. false)
     (λ j l. ap (λ (w : ℕ). lane i a (suc j) ⊕ bit i w) (same j l) ∙ ⊕-self (lane i a (suc j)))
     ∙ count-empty (rows shape))
     ∙ total-zero 32

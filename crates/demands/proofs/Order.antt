@@ -1,149 +1,139 @@
 -- Demand 3, a and b: the turns and the asks of the store are those of its rota. Assumes nothing.
-use Prim.Native.Nat.{ℕ, suc, _+_, _≤_, _<_}
-use mathlib.Core.Path.{_≡_, refl, sym, ap, _∙_}
-use mathlib.Core.List.{List, [], _∷_, _++_, map}
-use native.Mathlib.Omega.{arith}
-use lib.ListN.{length, replicate, length-replicate}
+use Prim.Native.Nat.{ℕ, _+_, _≤_, _<_}
+use mathlib.Core.Path.{_≡_, refl, sym, ap, ap₂, _∙_}
+use mathlib.Core.List.{List, [], _∷_, _++_}
+use native.Mathlib.Nat.{one-le-mul}
+use lib.ListN.{length}
+use Rattle.layout.specs.declared.Layout.{Layout}
+use Rattle.layout.specs.Layout.{blocks}
+use Rattle.layout.specs.Refusal.{imageRefusal}
+use Rattle.layout.proofs.Ladder.{geometry, image-layout}
 use Rattle.rota.specs.declared.Rota.{Rota}
 use Rattle.rota.specs.declared.Due.{Due}
 use Rattle.rota.specs.declared.Place.the-variants.{Given}
 use Rattle.rota.specs.Numbers.{firstBlock}
-use Rattle.rota.specs.Patrol.{StepOf}
-use Rattle.rota.specs.Record.{fresh as freshRota, asked as rotaAsked}
-use Rattle.rota.specs.Steps.{turn as rotaTurn, turns as rotaTurns, rotaAt, dueAt}
+use Rattle.rota.specs.Record.{fresh as freshRota, rotaAsked, rotaTurned}
+use Rattle.rota.specs.Steps.{turn as rotaTurn, rotaRun, rotaAt, dueAt}
 use Rattle.rota.specs.Turning.{dueOf}
 use Rattle.rota.proofs.Runs.{planAt, due-runs}
 use Rattle.rota.proofs.Patrol.{round-complete, ask-served}
-use Rattle.store.specs.Layout.{blocks}
-use Rattle.store.specs.Refusal.{layoutRefusal}
 use Rattle.patrol.specs.declared.Record.{Record}
 use Rattle.patrol.specs.Ask.{asked}
-use Rattle.patrol.specs.Format.{formatted, formatAfter}
+use Rattle.patrol.specs.Format.{formatted}
 use Rattle.patrol.specs.Numbers.{reportNumber}
-use Rattle.patrol.specs.Turn.{reported, turned}
-use Rattle.demands.specs.Steps.{Step, write, read, visit, ask, turn, flip, State, fresh, after, report, turns}
+use Rattle.patrol.specs.Turn.{reported, turnedNow, turned}
+use Rattle.demands.specs.Steps.{Step, ask, turn, fresh, stepAfter, report, turns}
 use Rattle.demands.specs.Demand3.{PatrolVisits, AskVisits, store, TurnsAccepted, EveryBlockVisited, AskServed}
-use Rattle.demands.proofs.Geometry.{geometry-fits, some-blocks}
-use Rattle.demands.proofs.Sizes.{store-size}
+use Rattle.demands.proofs.Lasting.{fresh-size}
 use Rattle.demands.proofs.Refused.{given-formatted}
-use Rattle.demands.proofs.Simulated.{memory, seen, recordOf, stateOf, run-patrol}
-use Rattle.demands.proofs.Splits.{map-append, split-map}
+use Rattle.demands.proofs.Parts.{Part, allParts, parts-append, parts-turns, whole-step}
+use Rattle.demands.proofs.Simulated.{OfStore, run-stays, run-rota}
 
--- ---- what a report says of the blocks that are due
+-- ---- what a turn reports of the blocks that are due
 
-due-report : (r : Record) (image : List ℕ) (next : ℕ) (asks : List ℕ) → reportNumber (reported r image (dueOf next asks)) ≡ 0
-due-report r image next [] = refl
-due-report r image next (first ∷ asks) = refl
+turn-reports : (r : Record) (image : List ℕ) → imageRefusal (length image) (r .layout) ≡ 0
+    → turned r image .report ≡ reported (r .layout) image (turnedNow r .due)
+unfolding turned
+turn-reports r image e = rw e
 
-due-names : (r : Record) (image : List ℕ) (next : ℕ) (asks : List ℕ) (block : ℕ) → firstBlock (dueOf next asks) ≡ block
-    → PatrolVisits block (reported r image (dueOf next asks))
-due-names r image next [] block e = e
-due-names r image next (first ∷ asks) block e = e
+due-report : (layout : Layout) (image : List ℕ) (next : ℕ) (asks : List ℕ) → reportNumber (reported layout image (dueOf next asks)) ≡ 0
+due-report layout image next [] = refl
+due-report layout image next (first ∷ asks) = refl
 
-module _ (image : List ℕ) (shape s g : ℕ) (fits : layoutRefusal (length image) shape s g ≡ 0) where
-  -- ---- the steps as the rota sees them
+due-names : (layout : Layout) (image : List ℕ) (next : ℕ) (asks : List ℕ) (block : ℕ) → firstBlock (dueOf next asks) ≡ block
+    → PatrolVisits block (reported layout image (dueOf next asks))
+due-names layout image next [] block e = e
+due-names layout image next (first ∷ asks) block e = e
 
-  abbrev pub asSeen : List Step → List (StepOf (memory (length image) shape s g fits))
-  asSeen steps = map (seen (length image) shape s g fits) steps
+module _ (image : List ℕ) (layout : Layout) (fits : imageRefusal (length image) layout ≡ 0) where
+  -- ---- the record after some steps
 
-  pub seen-append : (before rest : List Step) → asSeen (before ++ rest) ≡ asSeen before ++ asSeen rest
-  seen-append before rest = map-append (seen (length image) shape s g fits) before rest
-
-  pub turns-seen : (steps : List Step) → rotaTurns (asSeen steps) ≡ turns steps
-  unfolding turns rotaTurns
-  turns-seen [] = refl
-  turns-seen (write shape′ s′ g′ block list ∷ rest) = turns-seen rest
-  turns-seen (read shape′ s′ g′ block buffer ∷ rest) = turns-seen rest
-  turns-seen (visit shape′ s′ g′ block ∷ rest) = turns-seen rest
-  turns-seen (ask block ∷ rest) = turns-seen rest
-  turns-seen (turn ∷ rest) = ap suc (turns-seen rest)
-  turns-seen (flip at bit ∷ rest) = turns-seen rest
-
-  -- only a turn is seen as a turn
-  turn-seen : (step : Step) → seen (length image) shape s g fits step ≡ rotaTurn → step ≡ turn
-  turn-seen (write shape′ s′ g′ block list) e = let z : _≡_ {A = ℕ} 0 1 = cc in absurd (omega arith)
-  turn-seen (read shape′ s′ g′ block buffer) e = let z : _≡_ {A = ℕ} 0 1 = cc in absurd (omega arith)
-  turn-seen (visit shape′ s′ g′ block) e = let z : _≡_ {A = ℕ} 0 1 = cc in absurd (omega arith)
-  turn-seen (ask block) e = let z : _≡_ {A = ℕ} 0 1 = cc in absurd (omega arith)
-  turn-seen turn e = refl
-  turn-seen (flip at bit) e = let z : _≡_ {A = ℕ} 0 1 = cc in absurd (omega arith)
-
-  -- ---- the record after them
+  -- their parts, the rota after them, and the blocks that are then due
+  abbrev pub partsOf : List Step → List Part
+  partsOf steps = allParts steps (fresh image layout)
 
   abbrev rotaAfter : List Step → Rota
-  rotaAfter steps = rotaAt (blocks s g) (asSeen steps)
+  rotaAfter steps = rotaAt (blocks layout) (partsOf steps)
 
   abbrev dueAfter : List Step → Due
-  dueAfter steps = dueAt (blocks s g) (asSeen steps)
+  dueAfter steps = dueAt (blocks layout) (partsOf steps)
 
-  pub fresh-is : fresh image shape s g ≡ stateOf shape s g (replicate (length image) 0) freshRota
-  unfolding formatted formatAfter
-  fresh-is = rw fits
+  pub fresh-rota : fresh image layout .patrol .rota ≡ freshRota
+  unfolding formatted
+  fresh-rota = rw fits
 
-  record-after : (steps : List Step) → store image shape s g steps .patrol ≡ recordOf shape s g (rotaAfter steps)
-  record-after steps =
-      ap (λ (state : State). after steps state .patrol) fresh-is
-      ∙ run-patrol (length image) shape s g fits steps (replicate (length image) 0) freshRota (length-replicate (length image) 0)
+  pub fresh-stays : OfStore (length image) layout fits (fresh image layout)
+  unfolding formatted
+  fresh-stays = record { size = fresh-size image layout; names = rw fits }
+
+  stays : (steps : List Step) → OfStore (length image) layout fits (store image layout steps)
+  stays steps = run-stays (length image) layout fits steps (fresh image layout) fresh-stays
+
+  rota-after : (steps : List Step) → store image layout steps .patrol .rota ≡ rotaAfter steps
+  rota-after steps =
+      run-rota (length image) layout fits steps (fresh image layout) fresh-stays ∙ ap (rotaRun (blocks layout) (partsOf steps)) fresh-rota
 
   -- what a turn reports, and an ask answers, after them
-  report-after : (steps : List Step)
-      → report (store image shape s g steps) ≡ reported (recordOf shape s g (rotaAfter steps)) (store image shape s g steps .image) (dueAfter steps)
-  unfolding turned
+  report-after : (steps : List Step) → report (store image layout steps) ≡ reported layout (store image layout steps .image) (dueAfter steps)
   report-after steps =
-      ap (λ (r : Record). turned r (store image shape s g steps .image) .report) (record-after steps) ∙ rw (store-size image shape s g steps, fits)
+      let state = store image layout steps in
+      turn-reports (state .patrol) (state .image) (rw (stays steps .names, stays steps .size) fits)
+      ∙ ap₂ (λ (l : Layout) (rota : Rota). reported l (state .image) (rotaTurned (blocks l) rota .due)) (stays steps .names) (rota-after steps)
 
   place-after : (steps : List Step) (block : ℕ)
-      → asked (store image shape s g steps .patrol) block .place ≡ rotaAsked (blocks s g) (rotaAfter steps) block .place
+      → asked (store image layout steps .patrol) block .place ≡ rotaAsked (blocks layout) (rotaAfter steps) block .place
   unfolding asked
-  place-after steps block =
-      ap (λ (r : Record). asked r block .place) (record-after steps) ∙ rw (geometry-fits (length image) shape s g fits)
+  place-after steps block = rw (stays steps .names, image-layout layout (length image) fits, rota-after steps)
 
-  some : 1 ≤ blocks s g
-  some = some-blocks (length image) shape s g fits
+  pub some-blocks : 1 ≤ blocks layout
+  some-blocks = let g = geometry layout (image-layout layout (length image) fits) in one-le-mul (g .g-first) (g .s-first)
 
   due-after : (steps : List Step)
-      → dueAfter steps ≡ dueOf (planAt (blocks s g) (asSeen steps) .next) (planAt (blocks s g) (asSeen steps) .asks)
-  due-after steps = due-runs (blocks s g) some (asSeen steps)
+      → dueAfter steps ≡ dueOf (planAt (blocks layout) (partsOf steps) .next) (planAt (blocks layout) (partsOf steps) .asks)
+  due-after steps = due-runs (blocks layout) some-blocks (partsOf steps)
 
   -- ---- a
 
-  accepted : (steps : List Step) → reportNumber (report (store image shape s g steps)) ≡ 0
+  accepted : (steps : List Step) → reportNumber (report (store image layout steps)) ≡ 0
   accepted steps =
       rw (report-after steps, due-after steps)
-      (due-report _ _ (planAt (blocks s g) (asSeen steps) .next) (planAt (blocks s g) (asSeen steps) .asks))
+      (due-report _ _ (planAt (blocks layout) (partsOf steps) .next) (planAt (blocks layout) (partsOf steps) .asks))
 
-  names : (steps : List Step) (block : ℕ) → firstBlock (dueAfter steps) ≡ block → PatrolVisits block (report (store image shape s g steps))
+  names : (steps : List Step) (block : ℕ) → firstBlock (dueAfter steps) ≡ block → PatrolVisits block (report (store image layout steps))
   names steps block e =
       rw (report-after steps, due-after steps)
-      (due-names _ _ (planAt (blocks s g) (asSeen steps) .next) (planAt (blocks s g) (asSeen steps) .asks) block (rw (due-after steps) at e))
+      (due-names _ _ (planAt (blocks layout) (partsOf steps) .next) (planAt (blocks layout) (partsOf steps) .asks) block (rw (due-after steps) at e))
 
-  visited : (before during : List Step) → blocks s g ≤ turns during → (block : ℕ) → block < blocks s g
-      → (first rest : List Step) × (during ≡ first ++ turn ∷ rest) × PatrolVisits block (report (store image shape s g (before ++ first)))
+  visited : (before during : List Step) → blocks layout ≤ turns during → (block : ℕ) → block < blocks layout
+      → (first rest : List Step) × (during ≡ first ++ turn ∷ rest) × PatrolVisits block (report (store image layout (before ++ first)))
   visited before during h block inside =
-      let found = round-complete (blocks s g) some (asSeen before) (asSeen during) (rw (turns-seen during) h) block inside in
-      let at = split-map (seen (length image) shape s g fits) during (found .0) rotaTurn (found .1) (found .2) in (
+      let state = store image layout before in
+      let found = round-complete (blocks layout) some-blocks (partsOf before) (allParts during state) (rw (parts-turns during state) h) block inside in
+      let at = whole-step rotaTurn turn refl during state (found .0) (found .1) (found .2) in (
         at .front,
         at .back,
-        at .split ∙ ap (λ (step : Step). at .front ++ step ∷ at .back) (turn-seen (at .point) (at .point-is)),
-        names (before ++ at .front) block (rw (seen-append before (at .front), at .front-is) (found .3)),
+        at .split,
+        names (before ++ at .front) block (rw (parts-append before (at .front) (fresh image layout), at .front-is) (found .3)),
       )
 
   -- ---- b
 
-  served : (before between : List Step) (block place : ℕ) → asked (store image shape s g before .patrol) block .place ≡ Given place
+  served : (before between : List Step) (block place : ℕ) → asked (store image layout before .patrol) block .place ≡ Given place
       → turns between + 1 ≡ place
-      → AskVisits block (report (store image shape s g (before ++ ask block ∷ between)))
+      → AskVisits block (report (store image layout (before ++ ask block ∷ between)))
+  unfolding allParts
   served before between block place e t =
-      let given : rotaAsked (blocks s g) (rotaAfter before) block .place ≡ Given place = sym (place-after before block) ∙ e in
-      let due = ask-served (blocks s g) some (asSeen before) block place given (asSeen between) (rw (turns-seen between) t) in
-      rw (report-after (before ++ ask block ∷ between), seen-append before (ask block ∷ between), due) refl
+      let later = stepAfter (ask block) (store image layout before) in
+      let given : rotaAsked (blocks layout) (rotaAfter before) block .place ≡ Given place = sym (place-after before block) ∙ e in
+      let due = ask-served (blocks layout) some-blocks (partsOf before) block place given (allParts between later) (rw (parts-turns between later) t) in
+      rw (report-after (before ++ ask block ∷ between), parts-append before (ask block ∷ between) (fresh image layout), due) refl
 
-pub turns-accepted : (image : List ℕ) (shape s g : ℕ) → TurnsAccepted image shape s g
+pub turns-accepted : (image : List ℕ) (layout : Layout) → TurnsAccepted image layout
 turns-accepted = accepted
 
-pub every-block-visited : (image : List ℕ) (shape s g : ℕ) → EveryBlockVisited image shape s g
+pub every-block-visited : (image : List ℕ) (layout : Layout) → EveryBlockVisited image layout
 every-block-visited = visited
 
-pub asks-served : (image : List ℕ) (shape s g : ℕ) → AskServed image shape s g
-asks-served image shape s g before between block place e t =
-    served image shape s g (given-formatted image shape s g before block place e) before between block place e t
+pub asks-served : (image : List ℕ) (layout : Layout) → AskServed image layout
+asks-served image layout before between block place e t =
+    served image layout (given-formatted image layout before block place e) before between block place e t

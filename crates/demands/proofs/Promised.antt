@@ -2,6 +2,7 @@
 use Prim.Native.Nat.{ℕ}
 use mathlib.Core.Path.{_≡_, refl, ap, _∙_}
 use mathlib.Core.List.{List}
+use Rattle.layout.specs.declared.Layout.{Layout}
 use Rattle.patrol.specs.declared.Formatted.{Formatted}
 use Rattle.patrol.specs.declared.Asked.{Asked}
 use Rattle.patrol.specs.declared.Turned.{Turned}
@@ -14,27 +15,27 @@ same-state old new e f = λ i. record { image = e i; patrol = f i }
 
 -- no other state
 pub only-allowed : (step : Step) (old new : State) → Allowed step old new → new ≡ stepAfter step old
-only-allowed (write shape s g block list) old new h = same-state new (stepAfter (write shape s g block list) old) (h .1 .leaves) (h .2)
-only-allowed (read shape s g block buffer) old new h = same-state new old (h .3) (h .4)
-only-allowed (visit shape s g block) old new h = same-state new (stepAfter (visit shape s g block) old) (h .1 .leaves) (h .2)
+only-allowed (write layout block list) old new h = same-state new (stepAfter (write layout block list) old) (h .1 .leaves) (h .2)
+only-allowed (read layout block buffer) old new h = same-state new old (h .3) (h .4)
+only-allowed (visit layout block) old new h = same-state new (stepAfter (visit layout block) old) (h .1 .leaves) (h .2)
 only-allowed (ask block) old new h =
     same-state new (stepAfter (ask block) old) (h .2) (h .3 ∙ ap (λ (answer : Asked). answer .back) (h .1))
 only-allowed turn old new h =
     same-state new (stepAfter turn old) (h .1 .leaves) (h .2 ∙ ap (λ (answer : Turned). answer .back) (h .1 .answers))
 only-allowed (flip index bit) old new h = same-state new (stepAfter (flip index bit) old) (h .0) (h .1)
 
-pub only-fresh : (image : List ℕ) (shape s g : ℕ) (new : State) → AllowedFresh image shape s g new → new ≡ fresh image shape s g
-only-fresh image shape s g new h =
-    same-state new (fresh image shape s g) (h .1 .leaves) (h .2 ∙ ap (λ (answer : Formatted). answer .back) (h .1 .answers))
+pub only-fresh : (image : List ℕ) (layout : Layout) (new : State) → AllowedFresh image layout new → new ≡ fresh image layout
+only-fresh image layout new h =
+    same-state new (fresh image layout) (h .1 .leaves) (h .2 ∙ ap (λ (answer : Formatted). answer .back) (h .1 .answers))
 
 -- and this one
 pub is-allowed : (step : Step) (old : State) → Allowed step old (stepAfter step old)
-is-allowed (write shape s g block list) old = (_, record { answers = refl; leaves = refl }, refl)
-is-allowed (read shape s g block buffer) old = (_, _, record { answers = refl; leaves = refl }, refl, refl)
-is-allowed (visit shape s g block) old = (_, record { answers = refl; leaves = refl }, refl)
+is-allowed (write layout block list) old = (_, record { answers = refl; leaves = refl }, refl)
+is-allowed (read layout block buffer) old = (_, _, record { answers = refl; leaves = refl }, refl, refl)
+is-allowed (visit layout block) old = (_, record { answers = refl; leaves = refl }, refl)
 is-allowed (ask block) old = (_, refl, refl, refl)
 is-allowed turn old = (_, record { answers = refl; leaves = refl }, refl)
 is-allowed (flip index bit) old = (refl, refl)
 
-pub is-fresh : (image : List ℕ) (shape s g : ℕ) → AllowedFresh image shape s g (fresh image shape s g)
-is-fresh image shape s g = (_, record { answers = refl; leaves = refl }, refl)
+pub is-fresh : (image : List ℕ) (layout : Layout) → AllowedFresh image layout (fresh image layout)
+is-fresh image layout = (_, record { answers = refl; leaves = refl }, refl)

@@ -1,52 +1,46 @@
--- A store whose format was refused has the record of zeros for good, and gives no ask a place. Assumes nothing.
+-- A store whose format was refused names no layout for good, and gives no ask a place. Assumes nothing.
 use Prim.Native.Nat.{ℕ, zero, suc}
 use mathlib.Core.Path.{_≡_, refl, sym, ap, _∙_}
-use mathlib.Core.List.{List, [], _∷_}
+use mathlib.Core.List.{List}
 use native.Mathlib.Omega.{arith}
 use lib.ListN.{length}
 use Rattle.ground.specs.Choice.{ifZero}
+use Rattle.layout.specs.declared.Layout.{Layout}
+use Rattle.layout.specs.Layout.{layoutOf}
+use Rattle.layout.specs.Refusal.{layoutRefusal, imageRefusal}
 use Rattle.rota.specs.declared.Place.the-variants.{Given}
-use Rattle.store.specs.Refusal.{geometryRefusal, layoutRefusal}
 use Rattle.patrol.specs.declared.Record.{Record}
 use Rattle.patrol.specs.Ask.{asked}
 use Rattle.patrol.specs.Format.{freshRecord, noRecord, formatted}
-use Rattle.patrol.specs.Turn.{turned}
-use Rattle.demands.specs.Steps.{Step, write, read, visit, ask, turn, flip, State, fresh, stepAfter, after}
+use Rattle.patrol.proofs.Numbers.{askedBy}
+use Rattle.demands.specs.Steps.{Step, fresh}
 use Rattle.demands.specs.Demand3.{store}
+use Rattle.demands.proofs.Lasting.{after-layout}
 
-step-refused : (step : Step) (image : List ℕ) → stepAfter step (record { image = image; patrol = noRecord }) .patrol ≡ noRecord
-unfolding asked turned layoutRefusal geometryRefusal
-step-refused (write shape s g block list) image = refl
-step-refused (read shape s g block buffer) image = refl
-step-refused (visit shape s g block) image = refl
-step-refused (ask block) image = refl
-step-refused turn image = refl
-step-refused (flip at bit) image = refl
+-- an ask that is given a place is of a record whose layout is accepted
+given-accepted : (r : Record) (block place : ℕ) → asked r block .place ≡ Given place → layoutRefusal (r .layout) ≡ 0
+unfolding asked
+given-accepted r block place e = go (layoutRefusal (r .layout)) e
+  where
+    go : (number : ℕ) → askedBy r block number .place ≡ Given place → number ≡ 0
+    go zero q = refl
+    go (suc number) q = let z : _≡_ {A = ℕ} 0 1 = cc in absurd (omega arith)
 
-run-refused : (steps : List Step) (state : State) → state .patrol ≡ noRecord → after steps state .patrol ≡ noRecord
-unfolding after
-run-refused [] state e = e
-run-refused (step ∷ rest) state e =
-    run-refused rest (stepAfter step state)
-    (ap (λ (r : Record). stepAfter step (record { image = state .image; patrol = r }) .patrol) e ∙ step-refused step (state .image))
-
-none-given : (block place : ℕ) → asked noRecord block .place ≡ Given place → ⊥
-unfolding asked geometryRefusal
-none-given block place e = let z : _≡_ {A = ℕ} 0 1 = cc in omega arith
+-- and that of zeros is not
+zeros-refused : layoutRefusal (layoutOf 0 0 0) ≡ 0 → ⊥
+unfolding layoutRefusal
+zeros-refused e = omega arith
 
 -- so where an ask is given a place, the format was accepted
-pub given-formatted : (image : List ℕ) (shape s g : ℕ) (before : List Step) (block place : ℕ)
-    → asked (store image shape s g before .patrol) block .place ≡ Given place
-    → layoutRefusal (length image) shape s g ≡ 0
+pub given-formatted : (image : List ℕ) (layout : Layout) (before : List Step) (block place : ℕ)
+    → asked (store image layout before .patrol) block .place ≡ Given place
+    → imageRefusal (length image) layout ≡ 0
 unfolding formatted
-given-formatted image shape s g before block place e = go (layoutRefusal (length image) shape s g) refl
+given-formatted image layout before block place e = go (imageRefusal (length image) layout) refl
   where
-    go : (number : ℕ) → layoutRefusal (length image) shape s g ≡ number → layoutRefusal (length image) shape s g ≡ 0
+    passed : layoutRefusal (fresh image layout .patrol .layout) ≡ 0
+    passed = sym (ap layoutRefusal (after-layout before (fresh image layout))) ∙ given-accepted (store image layout before .patrol) block place e
+
+    go : (number : ℕ) → imageRefusal (length image) layout ≡ number → imageRefusal (length image) layout ≡ 0
     go zero f = f
-    go (suc number) f =
-        absurd
-        (none-given block place
-        (sym
-        (ap (λ (r : Record). asked r block .place)
-        (run-refused before (fresh image shape s g) (ap (λ (n : ℕ). ifZero n (freshRecord shape s g) noRecord) f)))
-        ∙ e))
+    go (suc number) f = absurd (zeros-refused (ap (λ (n : ℕ). layoutRefusal (ifZero n (freshRecord layout) noRecord .layout)) (sym f) ∙ passed))

@@ -1,36 +1,36 @@
--- A split of the images of a list is the image of a split. Assumes nothing.
+-- Where two lists that are joined are split at an element, and where a list of one is. Assumes nothing.
 use Prim.Native.Nat.{ℕ}
-use mathlib.Core.Path.{_≡_, refl, ap, ap₂}
-use mathlib.Core.List.{List, [], _∷_, _++_, map}
+use mathlib.Core.Path.{_≡_, refl, sym}
+use mathlib.Core.List.{List, [], _∷_, _++_}
+use mathlib.Core.Logic.{_⊎_, inl, inr, ⊎-elim}
 use native.Mathlib.Omega.{arith}
 
-module _ {A B : Type 0} (f : A → B) where
-  pub map-append : (l k : List A) → map f (l ++ k) ≡ map f l ++ map f k
-  map-append [] k = refl
-  map-append (x ∷ l) k = ap (λ (r : List B). f x ∷ r) (map-append l k)
+module _ {A : Type 0} where
+  -- the element is in the first list, or in the second
+  abbrev pub InFirst : List A → List A → List A → A → List A → Type 0
+  InFirst l k before at rest = (more : List A) × (l ≡ before ++ at ∷ more) × (rest ≡ more ++ k)
 
-  pub record Split (l : List A) (before : List B) (at : B) (rest : List B) : Type 0 where
-    pub front : List A
-    pub point : A
-    pub back : List A
-    pub split : l ≡ front ++ point ∷ back
-    pub front-is : map f front ≡ before
-    pub point-is : f point ≡ at
-    pub back-is : map f back ≡ rest
+  abbrev pub InSecond : List A → List A → List A → A → List A → Type 0
+  InSecond l k before at rest = (more : List A) × (before ≡ l ++ more) × (k ≡ more ++ at ∷ rest)
 
-  pub split-map : (l : List A) (before : List B) (at : B) (rest : List B) → map f l ≡ before ++ at ∷ rest → Split l before at rest
-  split-map [] [] at rest e = let z : _≡_ {A = ℕ} 0 1 = cc in absurd (omega arith)
-  split-map [] (b ∷ before) at rest e = let z : _≡_ {A = ℕ} 0 1 = cc in absurd (omega arith)
-  split-map (x ∷ l) [] at rest e = record { front = []; point = x; back = l; split = refl; front-is = refl; point-is = cc; back-is = cc }
-  split-map (x ∷ l) (b ∷ before) at rest e =
-      let same : f x ≡ b = cc in
-      let r = split-map l before at rest (cc) in
-      record {
-        front = x ∷ r .front;
-        point = r .point;
-        back = r .back;
-        split = ap (λ (k : List A). x ∷ k) (r .split);
-        front-is = ap₂ (λ (y : B) (k : List B). y ∷ k) same (r .front-is);
-        point-is = r .point-is;
-        back-is = r .back-is;
-      }
+  pub split-joined : (l k before : List A) (at : A) (rest : List A) → l ++ k ≡ before ++ at ∷ rest
+      → InFirst l k before at rest ⊎ InSecond l k before at rest
+  split-joined [] k before at rest e = inr (before, refl, e)
+  split-joined (x ∷ l) k [] at rest e = inl (l, cc, cc)
+  split-joined (x ∷ l) k (y ∷ before) at rest e =
+      let same : x ≡ y = cc in
+      ⊎-elim
+      (λ r. inl (r .0, (λ i. same i ∷ r .1 i), r .2))
+      (λ r. inr (r .0, (λ i. sym same i ∷ r .1 i), r .2))
+      (split-joined l k before at rest (cc))
+
+  -- an empty list is not split
+  pub split-none : (before : List A) (at : A) (rest : List A) → [] ≡ before ++ at ∷ rest → ⊥
+  split-none [] at rest e = let z : _≡_ {A = ℕ} 0 1 = cc in omega arith
+  split-none (x ∷ before) at rest e = let z : _≡_ {A = ℕ} 0 1 = cc in omega arith
+
+  -- a list of one is split at that one
+  pub split-one : (x : A) (before : List A) (at : A) (rest : List A) → x ∷ [] ≡ before ++ at ∷ rest
+      → (x ≡ at) × (before ≡ []) × (rest ≡ [])
+  split-one x [] at rest e = (cc, refl, cc)
+  split-one x (y ∷ before) at rest e = absurd (split-none before at rest (cc))

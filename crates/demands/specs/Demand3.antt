@@ -1,20 +1,21 @@
--- Demand 3, of a freshly formatted store of N blocks, its record handed from call to call, and not formatted again. Assumes nothing.
+-- Demand 3, of a freshly formatted store of N blocks, its record handed from call to call, and not formatted again.
 --   a. Every turn is accepted, and any N turns running visit every block.
 --   b. An ask given place k is served by the k-th turn after it, whatever comes between.
 --   c. If memory changes otherwise only by single flips between calls, with at least N turns between two flips in the same lane of the
 --      same block, every accepted read gives the data last written there, or zeros.
 -- Where the format was refused no ask is given a place and no read that names its layout is accepted, so b and c need not ask for it.
+-- Assumes nothing.
 use Prim.Native.Nat.{ℕ, _+_, _^_, _≤_, _<_}
 use mathlib.Core.Path.{_≡_}
 use mathlib.Core.List.{List, _∷_, _++_}
 use lib.ListN.{length, getD, replicate}
+use Rattle.layout.specs.declared.Layout.{Layout}
+use Rattle.layout.specs.Layout.{rowsOf, wordsOf, blocks, index}
+use Rattle.layout.specs.Refusal.{imageRefusal}
 use Rattle.rota.specs.declared.Place.the-variants.{Given}
 use Rattle.store.specs.declared.Answer.{Answer}
 use Rattle.store.specs.Answer.{answerNumber, answerVerdict}
-use Rattle.store.specs.Layout.{blocks, index}
 use Rattle.store.specs.Read.{Reads}
-use Rattle.store.specs.Refusal.{layoutRefusal}
-use Rattle.store.specs.Shapes.{rowsOf, wordsOf}
 use Rattle.patrol.specs.declared.Report.{Report}
 use Rattle.patrol.specs.declared.Report.the-variants.{Refused, One, Two}
 use Rattle.patrol.specs.Ask.{asked}
@@ -34,43 +35,43 @@ AskVisits block (One first verdict) = ⊥
 AskVisits block (Two first verdict second other) = second ≡ block
 
 -- the layout that a call names is this one
-abbrev pub SameLayout : ℕ → ℕ → ℕ → Step → Type 0
-SameLayout shape s g (write shape′ s′ g′ block list) = (shape′ ≡ shape) × (s′ ≡ s) × (g′ ≡ g)
-SameLayout shape s g (read shape′ s′ g′ block buffer) = (shape′ ≡ shape) × (s′ ≡ s) × (g′ ≡ g)
-SameLayout shape s g (visit shape′ s′ g′ block) = (shape′ ≡ shape) × (s′ ≡ s) × (g′ ≡ g)
-SameLayout shape s g (ask block) = Unit {0}
-SameLayout shape s g turn = Unit {0}
-SameLayout shape s g (flip at bit) = Unit {0}
+abbrev pub SameLayout : Layout → Step → Type 0
+SameLayout layout (write named block list) = named ≡ layout
+SameLayout layout (read named block buffer) = named ≡ layout
+SameLayout layout (visit named block) = named ≡ layout
+SameLayout layout (ask block) = Unit {0}
+SameLayout layout turn = Unit {0}
+SameLayout layout (flip at bit) = Unit {0}
 
 -- the data words of every write are 32-bit words
 abbrev pub WordsWritten : List Step → Type 0
 WordsWritten steps =
-    (before rest : List Step) (shape s g block : ℕ) (list : List ℕ) → steps ≡ before ++ write shape s g block list ∷ rest
+    (before rest : List Step) (layout : Layout) (block : ℕ) (list : List ℕ) → steps ≡ before ++ write layout block list ∷ rest
     → (k : ℕ) → getD list k 0 < 2 ^ 32
 
 -- the word at an index is a row of the block
-abbrev pub RowOf : ℕ → ℕ → ℕ → ℕ → Type 0
-RowOf shape s block at = (p : ℕ) × (1 ≤ p) × (p ≤ rowsOf shape) × (at ≡ index (rowsOf shape) s block p)
+abbrev pub RowOf : Layout → ℕ → ℕ → Type 0
+RowOf layout block at = (p : ℕ) × (1 ≤ p) × (p ≤ rowsOf layout) × (at ≡ index layout block p)
 
-module _ (image : List ℕ) (shape s g : ℕ) where
+module _ (image : List ℕ) (layout : Layout) where
   -- the store after a list of steps
   abbrev pub store : List Step → State
-  store steps = after steps (fresh image shape s g)
+  store steps = after steps (fresh image layout)
 
   -- ---- a
 
   -- the format is accepted
-  abbrev pub Formatted : Type 0
-  Formatted = layoutRefusal (length image) shape s g ≡ 0
+  abbrev pub FormatAccepted : Type 0
+  FormatAccepted = imageRefusal (length image) layout ≡ 0
 
   -- every turn is accepted
   abbrev pub TurnsAccepted : Type 0
-  TurnsAccepted = Formatted → (before : List Step) → reportNumber (report (store before)) ≡ 0
+  TurnsAccepted = FormatAccepted → (before : List Step) → reportNumber (report (store before)) ≡ 0
 
   -- in any N turns running every block is visited, whatever comes between
   abbrev pub EveryBlockVisited : Type 0
   EveryBlockVisited =
-      Formatted → (before during : List Step) → blocks s g ≤ turns during → (block : ℕ) → block < blocks s g
+      FormatAccepted → (before during : List Step) → blocks layout ≤ turns during → (block : ℕ) → block < blocks layout
       → (first rest : List Step) × (during ≡ first ++ turn ∷ rest) × PatrolVisits block (report (store (before ++ first)))
 
   -- ---- b
@@ -87,29 +88,29 @@ module _ (image : List ℕ) (shape s g : ℕ) where
   -- every call names the store's layout, or is refused where it stands
   abbrev pub OneLayout : List Step → Type 0
   OneLayout steps =
-      (before rest : List Step) (step : Step) → steps ≡ before ++ step ∷ rest → answers step (store before) ≡ 0 → SameLayout shape s g step
+      (before rest : List Step) (step : Step) → steps ≡ before ++ step ∷ rest → answers step (store before) ≡ 0 → SameLayout layout step
 
   -- at least N turns lie between any two flips in the same lane of the same block
   abbrev pub FlipsSpaced : List Step → Type 0
   FlipsSpaced steps =
       (before between rest : List Step) (at also bit block : ℕ)
       → steps ≡ before ++ flip at bit ∷ between ++ flip also bit ∷ rest
-      → RowOf shape s block at
-      → RowOf shape s block also
-      → blocks s g ≤ turns between
+      → RowOf layout block at
+      → RowOf layout block also
+      → blocks layout ≤ turns between
 
   -- every accepted read is not lost, and leaves in the buffer the data last written to the block, or zeros
   abbrev pub ReadsRight : Type 0
   ReadsRight =
       (steps : List Step) → OneLayout steps → WordsWritten steps → FlipsSpaced steps
-      → (before rest : List Step) (shape′ s′ g′ block : ℕ) (buffer : List ℕ) → steps ≡ before ++ read shape′ s′ g′ block buffer ∷ rest
-      → (answer : Answer) (left : List ℕ) → Reads (store before .image) shape′ s′ g′ block buffer answer left
+      → (before rest : List Step) (named : Layout) (block : ℕ) (buffer : List ℕ) → steps ≡ before ++ read named block buffer ∷ rest
+      → (answer : Answer) (left : List ℕ) → Reads (store before .image) named block buffer answer left
       → answerNumber answer ≡ 0
-      → (answerVerdict answer ≡ 3 → ⊥) × (left ≡ lastWritten block (replicate (wordsOf shape) 0) before (fresh image shape s g))
+      → (answerVerdict answer ≡ 3 → ⊥) × (left ≡ lastWritten block (replicate (wordsOf layout) 0) before (fresh image layout))
 
 -- for every image and every layout
 pub record Demand3 : Type 0 where
-  pub turns-accepted : (image : List ℕ) (shape s g : ℕ) → TurnsAccepted image shape s g
-  pub every-block-visited : (image : List ℕ) (shape s g : ℕ) → EveryBlockVisited image shape s g
-  pub ask-served : (image : List ℕ) (shape s g : ℕ) → AskServed image shape s g
-  pub reads-right : (image : List ℕ) (shape s g : ℕ) → ReadsRight image shape s g
+  pub turns-accepted : (image : List ℕ) (layout : Layout) → TurnsAccepted image layout
+  pub every-block-visited : (image : List ℕ) (layout : Layout) → EveryBlockVisited image layout
+  pub ask-served : (image : List ℕ) (layout : Layout) → AskServed image layout
+  pub reads-right : (image : List ℕ) (layout : Layout) → ReadsRight image layout

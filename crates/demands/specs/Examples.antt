@@ -7,7 +7,7 @@ use Rattle.block.specs.declared.Shape.{Shape}
 use Rattle.block.specs.declared.Shape.the-variants.{One, Two}
 use Rattle.block.specs.Block.{blank, validBlock, mendedBlock}
 use Rattle.block.specs.Verdict.{verdictOf, verdictNumber, verdictCount}
-use Rattle.store.specs.Layout.{index}
+use Rattle.layout.specs.Layout.{layoutOf, index}
 
 pub record Example : Type 0 where
   pub gives : List ℕ
@@ -75,5 +75,5 @@ examples =
     -- 11: shape 2, rows 1, 9 and 64 = 1: sum 72, odd: lost 1
     ∷ visits Two (blank with 1 in-rows (1 ∷ 9 ∷ 64 ∷ [])) lost 1 (blank with 1 in-rows (1 ∷ 9 ∷ 64 ∷ []))
     -- 12: shape 2, s = 6, block 7: row 1 at index 433, row 72 at 859
-    ∷ record { gives = index 72 6 7 1 ∷ index 72 6 7 72 ∷ []; must = 433 ∷ 859 ∷ [] }
+    ∷ record { gives = index (layoutOf 2 6 2) 7 1 ∷ index (layoutOf 2 6 2) 7 72 ∷ []; must = 433 ∷ 859 ∷ [] }
     ∷ []

@@ -1,5 +1,5 @@
-pub mod Refusing
-pub mod Mending
+pub mod Demand1
+pub mod Demand2
 pub mod Examples
 pub mod Steps
 pub mod Promised

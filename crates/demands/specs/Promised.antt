@@ -3,6 +3,7 @@
 use Prim.Native.Nat.{ℕ}
 use mathlib.Core.Path.{_≡_}
 use mathlib.Core.List.{List}
+use Rattle.layout.specs.declared.Layout.{Layout}
 use Rattle.store.specs.declared.Answer.{Answer}
 use Rattle.store.specs.Write.{Writes}
 use Rattle.store.specs.Read.{Reads}
@@ -16,18 +17,18 @@ use Rattle.patrol.specs.Turn.{Turns}
 use Rattle.demands.specs.Steps.{Step, write, read, visit, ask, turn, flip, State, flipped}
 
 abbrev pub Allowed : Step → State → State → Type 0
-Allowed (write shape s g block list) old new =
-    (answer : Answer) × Writes (old .image) shape s g block list answer (new .image) × (new .patrol ≡ old .patrol)
-Allowed (read shape s g block buffer) old new =
-    (answer : Answer) × (left : List ℕ) × Reads (old .image) shape s g block buffer answer left × (new .image ≡ old .image)
+Allowed (write layout block list) old new =
+    (answer : Answer) × Writes (old .image) layout block list answer (new .image) × (new .patrol ≡ old .patrol)
+Allowed (read layout block buffer) old new =
+    (answer : Answer) × (left : List ℕ) × Reads (old .image) layout block buffer answer left × (new .image ≡ old .image)
     × (new .patrol ≡ old .patrol)
-Allowed (visit shape s g block) old new =
-    (answer : Answer) × Visits (old .image) shape s g block answer (new .image) × (new .patrol ≡ old .patrol)
+Allowed (visit layout block) old new =
+    (answer : Answer) × Visits (old .image) layout block answer (new .image) × (new .patrol ≡ old .patrol)
 Allowed (ask block) old new =
     (answer : Asked) × (answer ≡ asked (old .patrol) block) × (new .image ≡ old .image) × (new .patrol ≡ answer .back)
 Allowed turn old new = (answer : Turned) × Turns (old .patrol) (old .image) answer (new .image) × (new .patrol ≡ answer .back)
 Allowed (flip index bit) old new = (new .image ≡ flipped index bit (old .image)) × (new .patrol ≡ old .patrol)
 
 -- what the promise of format allows
-abbrev pub AllowedFresh : List ℕ → ℕ → ℕ → ℕ → State → Type 0
-AllowedFresh image shape s g new = (answer : Formatted) × Formats image shape s g answer (new .image) × (new .patrol ≡ answer .back)
+abbrev pub AllowedFresh : List ℕ → Layout → State → Type 0
+AllowedFresh image layout new = (answer : Formatted) × Formats image layout answer (new .image) × (new .patrol ≡ answer .back)

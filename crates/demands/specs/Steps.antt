@@ -8,21 +8,23 @@ use lib.Dec.{eqb, ltb}
 use lib.ListN.{getD, set}
 use Rattle.ground.specs.Choice.{ifZero}
 use Rattle.rota.specs.Numbers.{placeNumber}
+use Rattle.layout.specs.declared.Layout.{Layout}
 use Rattle.store.specs.Answer.{answerNumber}
+use Rattle.store.specs.Fresh.{freshAfter}
 use Rattle.store.specs.Write.{writeAnswer, writeAfter}
 use Rattle.store.specs.Read.{readAnswer}
 use Rattle.store.specs.Visit.{visitAnswer, visitAfter}
 use Rattle.patrol.specs.declared.Record.{Record}
 use Rattle.patrol.specs.declared.Report.{Report}
 use Rattle.patrol.specs.Numbers.{reportNumber}
-use Rattle.patrol.specs.Format.{formatted, formatAfter}
+use Rattle.patrol.specs.Format.{formatted}
 use Rattle.patrol.specs.Ask.{asked}
 use Rattle.patrol.specs.Turn.{turned, turnAfter}
 
 pub data Step : Type 0 where
-  write : (shape s g block : ℕ) → List ℕ → Step
-  read : (shape s g block : ℕ) → List ℕ → Step
-  visit : (shape s g block : ℕ) → Step
+  write : Layout → ℕ → List ℕ → Step
+  read : Layout → ℕ → List ℕ → Step
+  visit : Layout → ℕ → Step
   ask : ℕ → Step
   turn : Step
   flip : (index bit : ℕ) → Step
@@ -33,8 +35,8 @@ pub record State : Type 0 where
   pub patrol : Record
 
 -- what format leaves
-abbrev pub fresh : List ℕ → ℕ → ℕ → ℕ → State
-fresh image shape s g = record { image = formatAfter image shape s g; patrol = formatted image shape s g .back }
+abbrev pub fresh : List ℕ → Layout → State
+fresh image layout = record { image = freshAfter image layout; patrol = formatted image layout .back }
 
 -- the image with one bit of one word changed; past its end, and above bit 31, there is none to change
 unfoldable pub flipped : ℕ → ℕ → List ℕ → List ℕ
@@ -42,10 +44,10 @@ flipped index bit image = cond (ltb bit 32) (set image index (bitXor (getD image
 
 -- the state after a step, and after a list of steps
 abbrev pub stepAfter : Step → State → State
-stepAfter (write shape s g block list) state =
-    record { image = writeAfter (state .image) shape s g block list; patrol = state .patrol }
-stepAfter (read shape s g block buffer) state = state
-stepAfter (visit shape s g block) state = record { image = visitAfter (state .image) shape s g block; patrol = state .patrol }
+stepAfter (write layout block list) state =
+    record { image = writeAfter (state .image) layout block list; patrol = state .patrol }
+stepAfter (read layout block buffer) state = state
+stepAfter (visit layout block) state = record { image = visitAfter (state .image) layout block; patrol = state .patrol }
 stepAfter (ask block) state = record { image = state .image; patrol = asked (state .patrol) block .back }
 stepAfter turn state =
     record { image = turnAfter (state .patrol) (state .image); patrol = turned (state .patrol) (state .image) .back }
@@ -61,18 +63,18 @@ report state = turned (state .patrol) (state .image) .report
 
 -- the number that a call answers, which is 0 where it is accepted; a flip is no call
 abbrev pub answers : Step → State → ℕ
-answers (write shape s g block list) state = answerNumber (writeAnswer (state .image) shape s g block list)
-answers (read shape s g block buffer) state = answerNumber (readAnswer (state .image) shape s g block buffer)
-answers (visit shape s g block) state = answerNumber (visitAnswer (state .image) shape s g block)
+answers (write layout block list) state = answerNumber (writeAnswer (state .image) layout block list)
+answers (read layout block buffer) state = answerNumber (readAnswer (state .image) layout block buffer)
+answers (visit layout block) state = answerNumber (visitAnswer (state .image) layout block)
 answers (ask block) state = placeNumber (asked (state .patrol) block .place)
 answers turn state = reportNumber (report state)
 answers (flip index bit) state = 0
 
 -- how many turns a list has
 abbrev pub tick : Step → ℕ → ℕ
-tick (write shape s g block list) count = count
-tick (read shape s g block buffer) count = count
-tick (visit shape s g block) count = count
+tick (write layout block list) count = count
+tick (read layout block buffer) count = count
+tick (visit layout block) count = count
 tick (ask block) count = count
 tick turn count = suc count
 tick (flip index bit) count = count
@@ -83,10 +85,10 @@ turns (step ∷ rest) = tick step (turns rest)
 
 -- the data that a block is meant to hold after a step: an accepted write to the block changes it, and nothing else does
 abbrev pub meant : ℕ → List ℕ → Step → State → List ℕ
-meant block old (write shape s g to list) state =
-    ifZero (answers (write shape s g to list) state) (cond (eqb to block) list old) old
-meant block old (read shape s g from buffer) state = old
-meant block old (visit shape s g at) state = old
+meant block old (write layout to list) state =
+    ifZero (answers (write layout to list) state) (cond (eqb to block) list old) old
+meant block old (read layout from buffer) state = old
+meant block old (visit layout at) state = old
 meant block old (ask asked) state = old
 meant block old turn state = old
 meant block old (flip index bit) state = old

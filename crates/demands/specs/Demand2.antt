@@ -9,7 +9,8 @@ use Rattle.block.specs.Block.{ValidBlock, dataOf, bitsChanged, lanesLost, Near,
 use Rattle.store.specs.declared.Answer.{Answer}
 use Rattle.store.specs.Answer.{answerNumber, answerVerdict, answerCount}
 use Rattle.store.specs.Image.{gathered, Untouched}
-use Rattle.store.specs.Shapes.{shapeOf}
+use Rattle.layout.specs.declared.Layout.{Layout}
+use Rattle.layout.specs.Layout.{shapeOf}
 use Rattle.store.specs.Write.{writeAnswer, writeAfter}
 use Rattle.store.specs.Read.{readAnswer, readBuffer}
 use Rattle.store.specs.Visit.{visitAnswer, visitAfter}
@@ -45,33 +46,33 @@ pub record Mends (shape : Shape) (found left : List ℕ) (answer : Answer) : Typ
 
 -- ---- the three calls, accepted
 
-pub record Visiting (image : List ℕ) (shape s block : ℕ) (answer : Answer) (after : List ℕ) : Type 0 where
-  pub mends : Mends (shapeOf shape) (gathered (shapeOf shape) s block image) (gathered (shapeOf shape) s block after) answer
+pub record Visiting (image : List ℕ) (layout : Layout) (block : ℕ) (answer : Answer) (after : List ℕ) : Type 0 where
+  pub mends : Mends (shapeOf layout) (gathered layout block image) (gathered layout block after) answer
   -- not one word is altered but where the block is mended, and no other block's words then
   pub lost-unaltered : SaysLost answer → after ≡ image
   pub clean-unaltered : SaysClean answer → after ≡ image
-  pub untouched : Untouched (shapeOf shape) s block image after
+  pub untouched : Untouched layout block image after
 
-pub record Writing (image : List ℕ) (shape s block : ℕ) (list after : List ℕ) : Type 0 where
-  pub valid : ValidBlock (shapeOf shape) (gathered (shapeOf shape) s block after)
-  pub holds : dataOf (shapeOf shape) (gathered (shapeOf shape) s block after) ≡ list
-  pub only : (other : List ℕ) → Fitting other → ValidBlock (shapeOf shape) other → dataOf (shapeOf shape) other ≡ list
-      → SameRows (shapeOf shape) other (gathered (shapeOf shape) s block after)
-  pub untouched : Untouched (shapeOf shape) s block image after
+pub record Writing (image : List ℕ) (layout : Layout) (block : ℕ) (list after : List ℕ) : Type 0 where
+  pub valid : ValidBlock (shapeOf layout) (gathered layout block after)
+  pub holds : dataOf (shapeOf layout) (gathered layout block after) ≡ list
+  pub only : (other : List ℕ) → Fitting other → ValidBlock (shapeOf layout) other → dataOf (shapeOf layout) other ≡ list
+      → SameRows (shapeOf layout) other (gathered layout block after)
+  pub untouched : Untouched layout block image after
 
 -- with what a visit of the same block would answer and leave
-pub record Reading (shape s block : ℕ) (buffer : List ℕ) (answer : Answer) (filled : List ℕ) (visited : Answer) (after : List ℕ) : Type 0 where
+pub record Reading (layout : Layout) (block : ℕ) (buffer : List ℕ) (answer : Answer) (filled : List ℕ) (visited : Answer) (after : List ℕ) : Type 0 where
   pub same : answer ≡ visited
-  pub mended : (SaysLost answer → ⊥) → filled ≡ dataOf (shapeOf shape) (gathered (shapeOf shape) s block after)
+  pub mended : (SaysLost answer → ⊥) → filled ≡ dataOf (shapeOf layout) (gathered layout block after)
   pub stays : SaysLost answer → filled ≡ buffer
 
 -- the demand: of every image of 32-bit words and every block, where the call is accepted
-pub record DemandTwo : Type 0 where
-  pub visit : (image : List ℕ) (shape s g block : ℕ) → Fitting image → answerNumber (visitAnswer image shape s g block) ≡ 0
-      → Visiting image shape s block (visitAnswer image shape s g block) (visitAfter image shape s g block)
-  pub write : (image : List ℕ) (shape s g block : ℕ) (list : List ℕ) → Fitting list → answerNumber (writeAnswer image shape s g block list) ≡ 0
-      → Writing image shape s block list (writeAfter image shape s g block list)
-  pub read : (image : List ℕ) (shape s g block : ℕ) (buffer : List ℕ) → Fitting image → answerNumber (readAnswer image shape s g block buffer) ≡ 0
-      → Reading shape s block buffer (readAnswer image shape s g block buffer) (readBuffer image shape s g block buffer)
-      (visitAnswer image shape s g block)
-      (visitAfter image shape s g block)
+pub record Demand2 : Type 0 where
+  pub visit : (image : List ℕ) (layout : Layout) (block : ℕ) → Fitting image → answerNumber (visitAnswer image layout block) ≡ 0
+      → Visiting image layout block (visitAnswer image layout block) (visitAfter image layout block)
+  pub write : (image : List ℕ) (layout : Layout) (block : ℕ) (list : List ℕ) → Fitting list → answerNumber (writeAnswer image layout block list) ≡ 0
+      → Writing image layout block list (writeAfter image layout block list)
+  pub read : (image : List ℕ) (layout : Layout) (block : ℕ) (buffer : List ℕ) → Fitting image → answerNumber (readAnswer image layout block buffer) ≡ 0
+      → Reading layout block buffer (readAnswer image layout block buffer) (readBuffer image layout block buffer)
+      (visitAnswer image layout block)
+      (visitAfter image layout block)

@@ -1,0 +1,114 @@
+-- Demand 2 holds of write, read and visit, for every image and block. Assumes nothing.
+use Prim.Native.Nat.{ℕ, zero, suc, _≤_}
+use mathlib.Core.Path.{_≡_, refl, sym, _∙_}
+use mathlib.Core.List.{List}
+use lib.ListN.{length}
+use Rattle.block.specs.declared.Shape.{Shape}
+use Rattle.block.specs.Shape.{rows}
+use Rattle.block.specs.Block.{dataOf, lanesLost, mendedBlock, Fitting}
+use Rattle.block.specs.Verdict.{verdictOf}
+use Rattle.block.proofs.Judged.{rows-fit}
+use Rattle.block.proofs.Blocks.{mended-lost}
+use Rattle.block.proofs.ValidBlocks.{valid-is, holds-data, valid-only}
+use Rattle.store.specs.declared.Answer.the-variants.{Found}
+use Rattle.store.specs.Answer.{answerNumber}
+use Rattle.store.specs.Image.{gathered}
+use Rattle.layout.specs.declared.Layout.{Layout}
+use Rattle.layout.specs.Layout.{shapeOf}
+use Rattle.layout.specs.Refusal.{blockRefusal}
+use Rattle.store.specs.Refusal.{dataRefusal}
+use Rattle.store.specs.Write.{writeAnswer, writeAfter}
+use Rattle.store.specs.Read.{readAnswer, readBuffer, mendedData}
+use Rattle.store.specs.Visit.{visitAnswer, visitAfter}
+use Rattle.store.proofs.After.{visit-held, visit-untouched, write-held, write-untouched}
+use Rattle.ground.proofs.Choices.{refused-kept}
+use Rattle.store.proofs.Answers.{answered-number}
+use Rattle.store.proofs.Image.{length-gathered, gathered-words, placed-gathered}
+use Rattle.store.proofs.Ladder.{data-accepted}
+use Rattle.demands.specs.Demand2.{Visiting, Writing, Reading, Demand2}
+use Rattle.demands.proofs.OneBlock.{mends, clean-same, lost-same, clean-numbers, kept-numbers}
+
+module _ (image : List ℕ) (layout : Layout) (block : ℕ) where
+  abbrev kind : Shape
+  kind = shapeOf layout
+
+  abbrev found : List ℕ
+  found = gathered layout block image
+
+  long : rows kind ≤ length found
+  long = rw (length-gathered layout block image) (rows-fit kind)
+
+  -- a block that is left as it was leaves the image as it was
+  unaltered : blockRefusal (length image) layout block ≡ 0 → mendedBlock kind found ≡ found → visitAfter image layout block ≡ image
+  unfolding visitAfter
+  unaltered e same = rw (e, same) (placed-gathered layout block image)
+
+  lost-left : (lanesLost kind found ≡ 0 → ⊥) → mendedBlock kind found ≡ found
+  lost-left some = by (lanesLost kind found) refl
+    where
+      by : (n : ℕ) → lanesLost kind found ≡ n → mendedBlock kind found ≡ found
+      by zero e = absurd (some e)
+      by (suc n) e = mended-lost kind found n e
+
+  says : blockRefusal (length image) layout block ≡ 0 → visitAnswer image layout block ≡ Found (verdictOf kind found)
+  unfolding visitAnswer
+  says e = rw e
+
+  pub visit-mends : Fitting image → blockRefusal (length image) layout block ≡ 0
+      → Visiting image layout block (visitAnswer image layout block) (visitAfter image layout block)
+  visit-mends fits e =
+      let small = gathered-words layout block image fits in
+      rw (says e)
+      (record {
+        mends = rw (visit-held image layout block e) (mends kind found small long);
+        lost-unaltered = λ l. unaltered e (lost-left (lost-same kind found small long l));
+        clean-unaltered = λ c. let z = clean-numbers kind found small long c in unaltered e (clean-same kind found small long (z .0) (z .1));
+        untouched = visit-untouched image layout block;
+      })
+
+  pub write-stores : (list : List ℕ) → Fitting list → dataRefusal (length image) layout block (length list) ≡ 0
+      → Writing image layout block list (writeAfter image layout block list)
+  write-stores list fits e =
+      let exact = data-accepted (length image) layout block (length list) e .1 in
+      record {
+        valid = rw (write-held image layout block list e) (valid-is kind list);
+        holds = rw (write-held image layout block list e) (holds-data kind list fits exact);
+        only = rw (write-held image layout block list e) (λ other small v d. valid-only kind list fits other small v exact d);
+        untouched = write-untouched image layout block list;
+      }
+
+  pub read-mends : Fitting image → (buffer : List ℕ) → dataRefusal (length image) layout block (length buffer) ≡ 0
+      → Reading layout block buffer (readAnswer image layout block buffer) (readBuffer image layout block buffer)
+      (visitAnswer image layout block)
+      (visitAfter image layout block)
+  unfolding readAnswer readBuffer mendedData
+  read-mends fits buffer e =
+      let small = gathered-words layout block image fits in
+      let v = data-accepted (length image) layout block (length buffer) e .0 in
+      rw (e, says v)
+      (record {
+        same = refl;
+        mended = λ ne. rw (kept-numbers kind found small long ne, visit-held image layout block v);
+        stays = λ l. refused-kept (lanesLost kind found) (dataOf kind (mendedBlock kind found)) buffer (lost-same kind found small long l);
+      })
+
+  -- a call that answers number 0 was not refused
+  visit-passed : answerNumber (visitAnswer image layout block) ≡ 0 → blockRefusal (length image) layout block ≡ 0
+  unfolding visitAnswer
+  visit-passed a = sym (answered-number (blockRefusal (length image) layout block) _ refl) ∙ a
+
+  write-passed : (list : List ℕ) → answerNumber (writeAnswer image layout block list) ≡ 0 → dataRefusal (length image) layout block (length list) ≡ 0
+  unfolding writeAnswer
+  write-passed list a = sym (answered-number (dataRefusal (length image) layout block (length list)) _ refl) ∙ a
+
+  read-passed : (buffer : List ℕ) → answerNumber (readAnswer image layout block buffer) ≡ 0 → dataRefusal (length image) layout block (length buffer) ≡ 0
+  unfolding readAnswer
+  read-passed buffer a = sym (answered-number (dataRefusal (length image) layout block (length buffer)) _ refl) ∙ a
+
+pub demand-2 : Demand2
+demand-2 =
+    record {
+      visit = λ image layout block fits a. visit-mends image layout block fits (visit-passed image layout block a);
+      write = λ image layout block list fits a. write-stores image layout block list fits (write-passed image layout block list a);
+      read = λ image layout block buffer fits a. read-mends image layout block fits buffer (read-passed image layout block buffer a);
+    }
