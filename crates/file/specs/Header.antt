@@ -6,7 +6,7 @@ use Rattle.file.specs.declared.Header.the-variants.{Refused, Image}
 use Rattle.file.specs.Bytes.{layoutIn}
 use Rattle.file.specs.Refusal.{fileRefusal}
 
--- the paper's number of a header: 0 where it is accepted
+-- the specification's number of a header: 0 where it is accepted
 abbrev pub headerNumber : Header → ℕ
 headerNumber (Refused number) = number
 headerNumber (Image layout) = 0

@@ -1,4 +1,4 @@
--- The paper's number, verdict and count tell the answers apart. Assumes nothing.
+-- The specification's number, verdict and count tell the answers apart. Assumes nothing.
 use Prim.Native.Nat.{ℕ, zero, suc}
 use mathlib.Core.Path.{_≡_, refl, sym, ap}
 use native.Mathlib.Omega.{arith}

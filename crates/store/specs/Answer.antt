@@ -1,4 +1,4 @@
--- What a call answers, in the paper's numbers. A refusal answers its number, with verdict and count 0. An accepted call answers number 0;
+-- What a call answers, in the specification's numbers. A refusal answers its number, with verdict and count 0. An accepted call answers number 0;
 -- write then answers no verdict and no count, read and visit those of the block. Assumes nothing.
 use Prim.Native.Nat.{ℕ, zero, suc}
 use mathlib.Core.List.{List}
