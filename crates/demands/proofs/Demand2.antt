@@ -1,31 +1,29 @@
 -- Demand 2 holds of write, read and visit, for every image and block. Assumes nothing.
-use Prim.Native.Nat.{ℕ, zero, suc, _≤_}
+use Prim.Native.Nat.{ℕ, _≤_}
 use mathlib.Core.Path.{_≡_, refl, sym, _∙_}
 use mathlib.Core.List.{List}
 use lib.ListN.{length}
+use Rattle.ground.proofs.Choices.{refused-kept}
 use Rattle.block.specs.declared.Shape.{Shape}
 use Rattle.block.specs.Shape.{rows}
 use Rattle.block.specs.Block.{dataOf, lanesLost, mendedBlock, Fitting}
 use Rattle.block.specs.Verdict.{verdictOf}
 use Rattle.block.proofs.Judged.{rows-fit}
-use Rattle.block.proofs.Blocks.{mended-lost}
 use Rattle.block.proofs.ValidBlocks.{valid-is, holds-data, valid-only}
-use Rattle.store.specs.declared.Answer.the-variants.{Found}
-use Rattle.store.specs.Answer.{answerNumber}
-use Rattle.store.specs.Image.{gathered}
 use Rattle.layout.specs.declared.Layout.{Layout}
 use Rattle.layout.specs.Layout.{shapeOf}
 use Rattle.layout.specs.Refusal.{blockRefusal}
+use Rattle.store.specs.declared.Answer.the-variants.{Found}
+use Rattle.store.specs.Image.{gathered}
 use Rattle.store.specs.Refusal.{dataRefusal}
-use Rattle.store.specs.Write.{writeAnswer, writeAfter}
+use Rattle.store.specs.Write.{writeAfter}
 use Rattle.store.specs.Read.{readAnswer, readBuffer, mendedData}
 use Rattle.store.specs.Visit.{visitAnswer, visitAfter}
 use Rattle.store.proofs.After.{visit-held, visit-untouched, write-held, write-untouched}
-use Rattle.ground.proofs.Choices.{refused-kept}
-use Rattle.store.proofs.Answers.{answered-number}
 use Rattle.store.proofs.Image.{length-gathered, gathered-words, placed-gathered}
 use Rattle.store.proofs.Ladder.{data-accepted}
 use Rattle.demands.specs.Demand2.{Visiting, Writing, Reading, Demand2}
+use Rattle.demands.proofs.Numbers.{write-number, read-number, visit-number}
 use Rattle.demands.proofs.OneBlock.{mends, clean-same, lost-same, clean-numbers, kept-numbers}
 
 module _ (image : List ℕ) (layout : Layout) (block : ℕ) where
@@ -44,11 +42,8 @@ module _ (image : List ℕ) (layout : Layout) (block : ℕ) where
   unaltered e same = rw (e, same) (placed-gathered layout block image)
 
   lost-left : (lanesLost kind found ≡ 0 → ⊥) → mendedBlock kind found ≡ found
-  lost-left some = by (lanesLost kind found) refl
-    where
-      by : (n : ℕ) → lanesLost kind found ≡ n → mendedBlock kind found ≡ found
-      by zero e = absurd (some e)
-      by (suc n) e = mended-lost kind found n e
+  unfolding mendedBlock
+  lost-left some = refused-kept (lanesLost kind found) _ found some
 
   says : blockRefusal (length image) layout block ≡ 0 → visitAnswer image layout block ≡ Found (verdictOf kind found)
   unfolding visitAnswer
@@ -92,23 +87,11 @@ module _ (image : List ℕ) (layout : Layout) (block : ℕ) where
         stays = λ l. refused-kept (lanesLost kind found) (dataOf kind (mendedBlock kind found)) buffer (lost-same kind found small long l);
       })
 
-  -- a call that answers number 0 was not refused
-  visit-passed : answerNumber (visitAnswer image layout block) ≡ 0 → blockRefusal (length image) layout block ≡ 0
-  unfolding visitAnswer
-  visit-passed a = sym (answered-number (blockRefusal (length image) layout block) _ refl) ∙ a
-
-  write-passed : (list : List ℕ) → answerNumber (writeAnswer image layout block list) ≡ 0 → dataRefusal (length image) layout block (length list) ≡ 0
-  unfolding writeAnswer
-  write-passed list a = sym (answered-number (dataRefusal (length image) layout block (length list)) _ refl) ∙ a
-
-  read-passed : (buffer : List ℕ) → answerNumber (readAnswer image layout block buffer) ≡ 0 → dataRefusal (length image) layout block (length buffer) ≡ 0
-  unfolding readAnswer
-  read-passed buffer a = sym (answered-number (dataRefusal (length image) layout block (length buffer)) _ refl) ∙ a
-
+-- a call that answers number 0 was not refused
 pub demand-2 : Demand2
 demand-2 =
     record {
-      visit = λ image layout block fits a. visit-mends image layout block fits (visit-passed image layout block a);
-      write = λ image layout block list fits a. write-stores image layout block list fits (write-passed image layout block list a);
-      read = λ image layout block buffer fits a. read-mends image layout block fits buffer (read-passed image layout block buffer a);
+      visit = λ image layout block fits a. visit-mends image layout block fits (sym (visit-number image layout block) ∙ a);
+      write = λ image layout block list fits a. write-stores image layout block list fits (sym (write-number image layout block list) ∙ a);
+      read = λ image layout block buffer fits a. read-mends image layout block fits buffer (sym (read-number image layout block buffer) ∙ a);
     }

@@ -6,20 +6,20 @@ use mathlib.Core.List.{List, _∷_, map}
 use native.Mathlib.Omega.{arith}
 use lib.Bits.{bitXor, bitOr}
 use lib.ListN.{length, set}
+use Rattle.ground.specs.Totals.{total}
+use Rattle.ground.specs.Stores.{stores}
+use Rattle.ground.specs.Lists.{listOf}
 use Rattle.lane.specs.Bit.{bit}
 use Rattle.lane.specs.Rows.{power?, rowsWhere}
 use Rattle.block.specs.declared.Shape.{Shape}
 use Rattle.block.specs.declared.Verdict.{Verdict}
 use Rattle.block.specs.Shape.{before}
-use Rattle.ground.specs.Totals.{total}
-use Rattle.ground.specs.Stores.{stores}
-use Rattle.ground.specs.Lists.{listOf}
 use Rattle.block.specs.Words.{number}
 use Rattle.block.specs.Block.{dataBlock, validBlock, mendedBlock}
 use Rattle.block.specs.Verdict.{verdictOf, verdictNumber, verdictCount}
 use Rattle.block.specs.Inner.{xorOver, sumsOf, anyOf, aboveOf, lostLanes, flippedIn, xorAll, withChecks}
-use Rattle.layout.specs.Layout.{shapeNumbered}
 use Rattle.block.proofs.ByWords.{fit?, bits, written, lost-by-words, mended-by-words}
+use Rattle.layout.specs.Layout.{shapeNumbered}
 use Rattle.demands.specs.Examples.{Example, examples, upTo, mended, lost}
 
 module _ (shape : Shape) where

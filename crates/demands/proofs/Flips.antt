@@ -12,14 +12,14 @@ use lib.ListN.{length, getD, set, length-set}
 use lib.Pow.{pow-lt}
 use lib.Seq.{set-out, getD-set-same, getD-set-other}
 use borrow.Author.Tests.{ltb-true}
+use Rattle.ground.specs.Stores.{stores}
+use Rattle.ground.proofs.Stores.{stores-all}
 use Rattle.lane.specs.Bit.{bit, _⊕_}
 use Rattle.lane.specs.Lane.{Lane, count}
 use Rattle.lane.proofs.Bits.{bit-xor, ⊕-zero, pick-one}
 use Rattle.lane.proofs.Linear.{count-same}
 use Rattle.lane.proofs.Mended.{count-empty}
 use Rattle.lane.proofs.Rows.{power-apart, split-below}
-use Rattle.ground.proofs.Stores.{stores-all}
-use Rattle.ground.specs.Stores.{stores}
 use Rattle.block.specs.Block.{Fitting}
 use Rattle.demands.specs.Steps.{flipped}
 

@@ -23,12 +23,12 @@ use Rattle.layout.specs.Layout.{shapeOf, rowsOf, blocks, index}
 use Rattle.layout.specs.Refusal.{imageRefusal}
 use Rattle.layout.proofs.Index.{in-range}
 use Rattle.layout.proofs.Ladder.{geometry, image-layout, image-exact, block-accepted}
-use Rattle.rota.specs.Memory.{Memory}
 use Rattle.store.specs.Image.{gathered, placed}
 use Rattle.store.specs.Fresh.{freshImage}
 use Rattle.store.specs.Visit.{visitAfter}
 use Rattle.store.proofs.After.{visit-untouched, visit-words, visit-held}
 use Rattle.store.proofs.Image.{length-gathered, gathered-row, gathered-words, length-placed, placed-words, placed-untouched, gathered-placed}
+use Rattle.rota.specs.Memory.{Memory}
 use Rattle.demands.specs.Steps.{flipped}
 use Rattle.demands.proofs.Index.{blockAt, rowAt, only-at}
 use Rattle.demands.proofs.SameBlocks.{same-apart, same-data, zeros-at, zeros-fit, zeros-block}

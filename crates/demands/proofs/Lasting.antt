@@ -4,14 +4,14 @@ use mathlib.Core.Path.{_≡_, refl, sym, _∙_}
 use mathlib.Core.List.{List, [], _∷_}
 use lib.ListN.{length, length-replicate}
 use Rattle.ground.specs.Choice.{ifZero}
-use Rattle.rota.specs.declared.Due.{Due}
-use Rattle.rota.specs.declared.Due.the-variants.{Refused as NoneDue, One as OneDue, Two as TwoDue}
 use Rattle.layout.specs.declared.Layout.{Layout}
 use Rattle.layout.specs.Layout.{rowsOf, blocks}
 use Rattle.layout.specs.Refusal.{layoutRefusal, imageRefusal}
 use Rattle.layout.proofs.Ladder.{image-exact}
 use Rattle.store.specs.Fresh.{freshImage, freshAfter}
 use Rattle.store.proofs.After.{visit-untouched, write-untouched}
+use Rattle.rota.specs.declared.Due.{Due}
+use Rattle.rota.specs.declared.Due.the-variants.{Refused as NoneDue, One as OneDue, Two as TwoDue}
 use Rattle.patrol.specs.declared.Record.{Record}
 use Rattle.patrol.specs.Ask.{asked}
 use Rattle.patrol.specs.Turn.{visited, patrolled, turnedNow, turned, turnAfter}
@@ -44,7 +44,7 @@ step-size (ask block) state = refl
 step-size turn state = turn-size (state .patrol) (state .image)
 step-size (flip at bit) state = length-flipped at bit (state .image)
 
-after-size : (steps : List Step) (state : State) → length (after steps state .image) ≡ length (state .image)
+pub after-size : (steps : List Step) (state : State) → length (after steps state .image) ≡ length (state .image)
 unfolding after
 after-size [] state = refl
 after-size (step ∷ rest) state = after-size rest (stepAfter step state) ∙ step-size step state

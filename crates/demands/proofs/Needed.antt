@@ -4,22 +4,20 @@ use Prim.Native.Nat.{ℕ, _^_}
 use mathlib.Core.Path.{_≡_, refl}
 use mathlib.Core.List.{List, [], _∷_}
 use lib.ListN.{getD, replicate}
+use Rattle.ground.specs.Totals.{total}
+use Rattle.ground.specs.Stores.{stores}
+use Rattle.ground.specs.Lists.{listOf}
 use Rattle.lane.specs.Bit.{bit}
 use Rattle.lane.specs.Lane.{sum, count}
 use Rattle.lane.specs.Decision.{decision}
 use Rattle.lane.specs.Encoded.{named}
 use Rattle.lane.specs.Rows.{power?, rowsWhere}
-use Rattle.ground.specs.Totals.{total}
-use Rattle.ground.specs.Stores.{stores}
-use Rattle.ground.specs.Lists.{listOf}
 use Rattle.block.specs.Words.{number}
 use Rattle.block.specs.Block.{dataBlock, validBlock, dataOf, lanesLost, mendedLanes, mendedBlock, bitsChanged}
 use Rattle.block.specs.Verdict.{verdictOf}
 use Rattle.layout.specs.declared.Layout.{Layout}
 use Rattle.layout.specs.Layout.{layoutOf, shapeNumbered}
 use Rattle.layout.specs.Refusal.{layoutRefusal, imageRefusal, blockRefusal}
-use Rattle.rota.specs.Line.{below, noneTwice, zeros, sound}
-use Rattle.rota.specs.Record.{unbroken, turnNumber, rotaTurned}
 use Rattle.store.specs.Answer.{answerNumber, answerVerdict}
 use Rattle.store.specs.Fresh.{freshImage, freshAfter}
 use Rattle.store.specs.Image.{gathered, placed}
@@ -27,6 +25,8 @@ use Rattle.store.specs.Read.{readAnswer, readBuffer, mendedData}
 use Rattle.store.specs.Refusal.{dataRefusal}
 use Rattle.store.specs.Visit.{visitAfter}
 use Rattle.store.specs.Write.{writeAnswer, writeAfter}
+use Rattle.rota.specs.Line.{below, noneTwice, zeros, sound}
+use Rattle.rota.specs.Record.{unbroken, turnNumber, rotaTurned}
 use Rattle.patrol.specs.Format.{formatted}
 use Rattle.patrol.specs.Numbers.{reportNumber}
 use Rattle.patrol.specs.Turn.{turned, turnAfter}

@@ -1,30 +1,27 @@
 -- Demand 2 of one block: what it is mended to, and what the verdict says of it. Assumes nothing.
 use Prim.Native.Nat.{ℕ, zero, suc, _≤_}
-use mathlib.Core.Path.{_≡_, refl, sym, ap, subst, _∙_}
-use mathlib.Core.Bool.{false}
+use mathlib.Core.Path.{_≡_, refl, sym, subst, _∙_}
 use mathlib.Core.List.{List}
 use native.Mathlib.Omega.{arith}
 use lib.ListN.{length}
-use Rattle.lane.specs.Bit.{bit, _⊕_}
-use Rattle.lane.specs.Lane.{diff}
+use Rattle.ground.proofs.Totals.{total-same, total-zero, total-few}
 use Rattle.lane.specs.Decision.{decide, lost?}
 use Rattle.lane.proofs.Bits.{pick-one}
-use Rattle.lane.proofs.Linear.{count-same}
-use Rattle.lane.proofs.Mended.{⊕-self, count-empty, valid-near}
+use Rattle.lane.proofs.Mended.{valid-near}
 use Rattle.block.specs.declared.Shape.{Shape}
 use Rattle.block.specs.Shape.{before, rows}
 use Rattle.block.specs.Words.{lane}
 use Rattle.block.specs.Block.{ValidBlock, lanesLost, bitsChanged, mendedBlock, Fitting, Near, SameRows}
-use Rattle.ground.proofs.Totals.{total-same, total-zero, total-few}
 use Rattle.block.specs.Verdict.{verdictNumber, verdictCount, verdict, verdictOf}
 use Rattle.block.proofs.Blocks.{kept-valid, kept-near, near-none, near-rows, mended-fits}
 use Rattle.store.specs.declared.Answer.the-variants.{Found}
 use Rattle.store.proofs.Verdicts.{clean-left}
 use Rattle.demands.specs.Demand2.{Meant, Mends}
+use Rattle.demands.proofs.SameBlocks.{same-apart}
 
 -- ---- the verdict by the numbers of lanes lost and bits changed
 
-lost-some : (lost changed : ℕ) → verdictNumber (verdict lost changed) ≡ 3 → lost ≡ 0 → ⊥
+pub lost-some : (lost changed : ℕ) → verdictNumber (verdict lost changed) ≡ 3 → lost ≡ 0 → ⊥
 lost-some zero zero e z = omega arith
 lost-some zero (suc changed) e z = omega arith
 lost-some (suc lost) changed e z = omega arith
@@ -66,15 +63,9 @@ unfolding bitsChanged
 few-changed shape old new near = total-few 32 _ near
 
 -- blocks with the same rows differ in no bit
-same-bits : (shape : Shape) (a b : List ℕ) → SameRows shape b a → bitsChanged shape a b ≡ 0
+same-bits : (shape : Shape) (a b : List ℕ) → SameRows shape a b → bitsChanged shape a b ≡ 0
 unfolding bitsChanged
-same-bits shape a b same =
-    total-same 32 _ (λ i. 0)
-    (λ i h.
-    count-same (rows shape) (diff (lane i a) (lane i b)) (λ p. false)
-    (λ j l. ap (λ (w : ℕ). lane i a (suc j) ⊕ bit i w) (same j l) ∙ ⊕-self (lane i a (suc j)))
-    ∙ count-empty (rows shape))
-    ∙ total-zero 32
+same-bits shape a b same = total-same 32 _ (λ i. 0) (λ i h. same-apart shape a b same i) ∙ total-zero 32
 
 module _ (shape : Shape) (found : List ℕ) (fits : Fitting found) (long : rows shape ≤ length found) where
   abbrev left : List ℕ
@@ -89,8 +80,8 @@ module _ (shape : Shape) (found : List ℕ) (fits : Fitting found) (long : rows 
   left-meant : lost ≡ 0 → Meant shape found left
   left-meant none = record { words = mended-fits shape found fits; valid = kept-valid shape found long none; near = kept-near shape found long none }
 
-  left-only : (other : List ℕ) → Meant shape found other → SameRows shape left other
-  left-only other m = near-rows shape found long other (m .valid) (m .near) (mended-fits shape found fits) (m .words)
+  left-only : (other : List ℕ) → Meant shape found other → SameRows shape other left
+  left-only other m j h = sym (near-rows shape found long other (m .valid) (m .near) (mended-fits shape found fits) (m .words) j h)
 
   valid-meant : ValidBlock shape found → Meant shape found found
   valid-meant v = record { words = fits; valid = v; near = λ i h. valid-near (before shape) (lane i found) (v i h) }
@@ -108,7 +99,7 @@ module _ (shape : Shape) (found : List ℕ) (fits : Fitting found) (long : rows 
       record {
         mended = λ ne. left-meant (none-lost lost changed ne .0);
         count = λ ne. none-lost lost changed ne .1;
-        only = λ other m j h. sym (left-only other m j h);
+        only = left-only;
         lost = (
           λ says other m. lost-some lost changed says (near-none shape found long other (m .valid) (m .near)),
           λ none. some-lost lost changed (λ e. none left (left-meant e)) .0,

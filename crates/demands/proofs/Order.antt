@@ -8,13 +8,15 @@ use Rattle.layout.specs.declared.Layout.{Layout}
 use Rattle.layout.specs.Layout.{blocks}
 use Rattle.layout.specs.Refusal.{imageRefusal}
 use Rattle.layout.proofs.Ladder.{geometry, image-layout}
+use Rattle.store.specs.Fresh.{freshAfter, freshImage}
 use Rattle.rota.specs.declared.Rota.{Rota}
 use Rattle.rota.specs.declared.Due.{Due}
 use Rattle.rota.specs.declared.Place.the-variants.{Given}
 use Rattle.rota.specs.Numbers.{firstBlock}
 use Rattle.rota.specs.Record.{fresh as freshRota, rotaAsked, rotaTurned}
-use Rattle.rota.specs.Steps.{turn as rotaTurn, rotaRun, rotaAt, dueAt}
-use Rattle.rota.specs.Turning.{dueOf}
+use Rattle.rota.specs.Steps.{turn as rotaTurn, turns as rotaTurns, rotaRun, rotaAt, dueAt}
+use Rattle.rota.specs.Plan.{Plan}
+use Rattle.rota.specs.Turning.{dueOf, due}
 use Rattle.rota.proofs.Runs.{planAt, due-runs}
 use Rattle.rota.proofs.Patrol.{round-complete, ask-served}
 use Rattle.patrol.specs.declared.Record.{Record}
@@ -45,18 +47,26 @@ due-names : (layout : Layout) (image : List ℕ) (next : ℕ) (asks : List ℕ) 
 due-names layout image next [] block e = e
 due-names layout image next (first ∷ asks) block e = e
 
-module _ (image : List ℕ) (layout : Layout) (fits : imageRefusal (length image) layout ≡ 0) where
-  -- ---- the record after some steps
-
-  -- their parts, the rota after them, and the blocks that are then due
+-- the parts of a store's steps, the rota after them, what it says, and the blocks that are then due
+module _ (image : List ℕ) (layout : Layout) where
   abbrev pub partsOf : List Step → List Part
   partsOf steps = allParts steps (fresh image layout)
 
   abbrev rotaAfter : List Step → Rota
   rotaAfter steps = rotaAt (blocks layout) (partsOf steps)
 
+  abbrev planAfter : List Step → Plan
+  planAfter steps = planAt (blocks layout) (partsOf steps)
+
   abbrev dueAfter : List Step → Due
   dueAfter steps = dueAt (blocks layout) (partsOf steps)
+
+module _ (image : List ℕ) (layout : Layout) (fits : imageRefusal (length image) layout ≡ 0) where
+  -- ---- what an accepted format leaves
+
+  pub fresh-image : fresh image layout .image ≡ freshImage layout
+  unfolding freshAfter
+  fresh-image = rw fits
 
   pub fresh-rota : fresh image layout .patrol .rota ≡ freshRota
   unfolding formatted
@@ -66,49 +76,51 @@ module _ (image : List ℕ) (layout : Layout) (fits : imageRefusal (length image
   unfolding formatted
   fresh-stays = record { size = fresh-size image layout; names = rw fits }
 
+  -- ---- the record after some steps
+
   stays : (steps : List Step) → OfStore (length image) layout fits (store image layout steps)
   stays steps = run-stays (length image) layout fits steps (fresh image layout) fresh-stays
 
-  rota-after : (steps : List Step) → store image layout steps .patrol .rota ≡ rotaAfter steps
+  rota-after : (steps : List Step) → store image layout steps .patrol .rota ≡ rotaAfter image layout steps
   rota-after steps =
-      run-rota (length image) layout fits steps (fresh image layout) fresh-stays ∙ ap (rotaRun (blocks layout) (partsOf steps)) fresh-rota
+      run-rota (length image) layout fits steps (fresh image layout) fresh-stays ∙ ap (rotaRun (blocks layout) (partsOf image layout steps)) fresh-rota
 
   -- what a turn reports, and an ask answers, after them
-  report-after : (steps : List Step) → report (store image layout steps) ≡ reported layout (store image layout steps .image) (dueAfter steps)
+  report-after : (steps : List Step) → report (store image layout steps) ≡ reported layout (store image layout steps .image) (dueAfter image layout steps)
   report-after steps =
       let state = store image layout steps in
       turn-reports (state .patrol) (state .image) (rw (stays steps .names, stays steps .size) fits)
       ∙ ap₂ (λ (l : Layout) (rota : Rota). reported l (state .image) (rotaTurned (blocks l) rota .due)) (stays steps .names) (rota-after steps)
 
   place-after : (steps : List Step) (block : ℕ)
-      → asked (store image layout steps .patrol) block .place ≡ rotaAsked (blocks layout) (rotaAfter steps) block .place
+      → asked (store image layout steps .patrol) block .place ≡ rotaAsked (blocks layout) (rotaAfter image layout steps) block .place
   unfolding asked
   place-after steps block = rw (stays steps .names, image-layout layout (length image) fits, rota-after steps)
 
   pub some-blocks : 1 ≤ blocks layout
   some-blocks = let g = geometry layout (image-layout layout (length image) fits) in one-le-mul (g .g-first) (g .s-first)
 
-  due-after : (steps : List Step)
-      → dueAfter steps ≡ dueOf (planAt (blocks layout) (partsOf steps) .next) (planAt (blocks layout) (partsOf steps) .asks)
-  due-after steps = due-runs (blocks layout) some-blocks (partsOf steps)
+  due-after : (steps : List Step) → dueAfter image layout steps ≡ due (planAfter image layout steps)
+  due-after steps = due-runs (blocks layout) some-blocks (partsOf image layout steps)
 
   -- ---- a
 
   accepted : (steps : List Step) → reportNumber (report (store image layout steps)) ≡ 0
   accepted steps =
-      rw (report-after steps, due-after steps)
-      (due-report _ _ (planAt (blocks layout) (partsOf steps) .next) (planAt (blocks layout) (partsOf steps) .asks))
+      let plan = planAfter image layout steps in
+      rw (report-after steps, due-after steps) (due-report _ _ (plan .next) (plan .asks))
 
-  names : (steps : List Step) (block : ℕ) → firstBlock (dueAfter steps) ≡ block → PatrolVisits block (report (store image layout steps))
+  names : (steps : List Step) (block : ℕ) → firstBlock (dueAfter image layout steps) ≡ block → PatrolVisits block (report (store image layout steps))
   names steps block e =
-      rw (report-after steps, due-after steps)
-      (due-names _ _ (planAt (blocks layout) (partsOf steps) .next) (planAt (blocks layout) (partsOf steps) .asks) block (rw (due-after steps) at e))
+      let plan = planAfter image layout steps in
+      rw (report-after steps, due-after steps) (due-names _ _ (plan .next) (plan .asks) block (rw (due-after steps) at e))
 
   visited : (before during : List Step) → blocks layout ≤ turns during → (block : ℕ) → block < blocks layout
       → (first rest : List Step) × (during ≡ first ++ turn ∷ rest) × PatrolVisits block (report (store image layout (before ++ first)))
   visited before during h block inside =
       let state = store image layout before in
-      let found = round-complete (blocks layout) some-blocks (partsOf before) (allParts during state) (rw (parts-turns during state) h) block inside in
+      let long : blocks layout ≤ rotaTurns (allParts during state) = rw (parts-turns during state) h in
+      let found = round-complete (blocks layout) some-blocks (partsOf image layout before) (allParts during state) long block inside in
       let at = whole-step rotaTurn turn refl during state (found .0) (found .1) (found .2) in (
         at .front,
         at .back,
@@ -124,9 +136,10 @@ module _ (image : List ℕ) (layout : Layout) (fits : imageRefusal (length image
   unfolding allParts
   served before between block place e t =
       let later = stepAfter (ask block) (store image layout before) in
-      let given : rotaAsked (blocks layout) (rotaAfter before) block .place ≡ Given place = sym (place-after before block) ∙ e in
-      let due = ask-served (blocks layout) some-blocks (partsOf before) block place given (allParts between later) (rw (parts-turns between later) t) in
-      rw (report-after (before ++ ask block ∷ between), parts-append before (ask block ∷ between) (fresh image layout), due) refl
+      let given : rotaAsked (blocks layout) (rotaAfter image layout before) block .place ≡ Given place = sym (place-after before block) ∙ e in
+      let turn-k : rotaTurns (allParts between later) + 1 ≡ place = rw (parts-turns between later) t in
+      let two = ask-served (blocks layout) some-blocks (partsOf image layout before) block place given (allParts between later) turn-k in
+      rw (report-after (before ++ ask block ∷ between), parts-append before (ask block ∷ between) (fresh image layout), two) refl
 
 pub turns-accepted : (image : List ℕ) (layout : Layout) → TurnsAccepted image layout
 turns-accepted = accepted

@@ -1,50 +1,45 @@
 -- Demand 3, c: the memory's reads are right where its flips lie apart, and the store's reads are those. Assumes nothing.
-use Prim.Native.Nat.{ℕ, zero, suc}
+use Prim.Native.Nat.{ℕ}
 use mathlib.Core.Path.{_≡_, sym, ap, ap₂, _∙_, subst}
 use mathlib.Core.List.{List, [], _∷_, _++_, append-assoc}
-use native.Mathlib.Omega.{arith}
 use lib.ListN.{length, replicate, length-replicate}
 use Rattle.block.specs.Block.{lanesLost, mendedBlock, validBlock, dataOf}
-use Rattle.block.specs.Verdict.{verdictNumber, verdict, verdictOf}
+use Rattle.block.specs.Verdict.{verdictOf}
 use Rattle.block.proofs.ValidBlocks.{holds-data}
 use Rattle.layout.specs.declared.Layout.{Layout}
 use Rattle.layout.specs.Layout.{shapeOf, wordsOf}
 use Rattle.layout.specs.Refusal.{imageRefusal, blockRefusal}
 use Rattle.layout.proofs.Ladder.{block-image, accepted}
-use Rattle.rota.specs.Patrol.{memoryRun, memoryAt}
-use Rattle.rota.specs.Steps.{other}
-use Rattle.rota.specs.Touches.{read as reads}
-use Rattle.rota.proofs.Patrol.{read-right}
 use Rattle.store.specs.Answer.{answerNumber, answerVerdict}
-use Rattle.store.specs.Fresh.{freshAfter, freshImage}
 use Rattle.store.specs.Image.{gathered}
 use Rattle.store.specs.Read.{readAnswer, readBuffer, mendedData}
 use Rattle.store.specs.Refusal.{dataRefusal}
 use Rattle.store.proofs.Ladder.{data-accepted}
+use Rattle.rota.specs.Patrol.{memoryRun, memoryAt}
+use Rattle.rota.specs.Steps.{other}
+use Rattle.rota.specs.Touches.{read as reads}
+use Rattle.rota.proofs.Patrol.{read-right}
 use Rattle.demands.specs.Steps.{Step, write, read, fresh, lastWritten}
 use Rattle.demands.specs.Demand3.{WordsWritten, store, OneLayout, FlipsSpaced, ReadsRight}
+use Rattle.demands.proofs.Numbers.{read-number}
+use Rattle.demands.proofs.OneBlock.{lost-some}
 use Rattle.demands.proofs.SameBlocks.{zeros-fit}
 use Rattle.demands.proofs.Lasting.{store-size}
 use Rattle.demands.proofs.ImageMemory.{found}
 use Rattle.demands.proofs.Parts.{Part, calls, allParts, parts-append, parts-written}
-use Rattle.demands.proofs.Simulated.{read-number, LayoutFrom, memory, run-image}
-use Rattle.demands.proofs.Order.{partsOf, fresh-rota, fresh-stays, some-blocks}
+use Rattle.demands.proofs.Simulated.{LayoutFrom, memory, run-image}
+use Rattle.demands.proofs.Order.{partsOf, fresh-image, fresh-rota, fresh-stays, some-blocks}
 use Rattle.demands.proofs.Spaced.{parts-spaced}
 use Rattle.demands.proofs.Written.{DataOf, written-data}
 
 -- ---- a read that is accepted, of a block with no lane lost
-
-not-lost : (lost changed : ℕ) → lost ≡ 0 → verdictNumber (verdict lost changed) ≡ 3 → ⊥
-not-lost zero zero z e = omega arith
-not-lost zero (suc changed) z e = omega arith
-not-lost (suc lost) changed z e = omega arith
 
 module _ (image : List ℕ) (layout : Layout) (block : ℕ) (buffer : List ℕ)
     (passed : dataRefusal (length image) layout block (length buffer) ≡ 0)
     (kept : lanesLost (shapeOf layout) (gathered layout block image) ≡ 0) where
   says-kept : answerVerdict (readAnswer image layout block buffer) ≡ 3 → ⊥
   unfolding readAnswer verdictOf
-  says-kept e = not-lost (lanesLost (shapeOf layout) (gathered layout block image)) _ kept (rw passed at e)
+  says-kept e = lost-some (lanesLost (shapeOf layout) (gathered layout block image)) _ (rw passed at e) kept
 
   leaves-data : readBuffer image layout block buffer ≡ dataOf (shapeOf layout) (mendedBlock (shapeOf layout) (gathered layout block image))
   unfolding readBuffer mendedData
@@ -89,32 +84,28 @@ module _ (image : List ℕ) (layout : Layout) (before rest : List Step) (block :
   fits = block-image layout (length image) block block-passed
 
   -- the image is that of the memory, and the read is one of its reads
-  fresh-image : freshAfter image layout ≡ freshImage layout
-  unfolding freshAfter
-  fresh-image = rw fits
-
-  memory-is : store image layout before .image ≡ memoryAt (memory (length image) layout fits) (partsOf image layout fits before)
+  memory-is : store image layout before .image ≡ memoryAt (memory (length image) layout fits) (partsOf image layout before)
   memory-is =
       run-image (length image) layout fits before (fresh image layout) (fresh-stays image layout fits) layout-before
-      ∙ ap₂ (memoryRun (memory (length image) layout fits) (partsOf image layout fits before)) (fresh-rota image layout fits) fresh-image
+      ∙ ap₂ (memoryRun (memory (length image) layout fits) (partsOf image layout before)) (fresh-rota image layout fits) (fresh-image image layout fits)
 
   later : List Part
   later = allParts rest (store image layout before)
 
-  read-part : partsOf image layout fits (before ++ read layout block buffer ∷ rest) ≡ partsOf image layout fits before ++ other (reads block) ∷ later
+  read-part : partsOf image layout (before ++ read layout block buffer ∷ rest) ≡ partsOf image layout before ++ other (reads block) ∷ later
   unfolding allParts later
   read-part =
       parts-append before (read layout block buffer ∷ rest) (fresh image layout)
-      ∙ ap (λ (number : ℕ). partsOf image layout fits before ++ (calls number (reads block ∷ []) ++ allParts rest (store image layout before)))
-      (read-number layout block (store image layout before) buffer ∙ passed)
+      ∙ ap (λ (number : ℕ). partsOf image layout before ++ (calls number (reads block ∷ []) ++ allParts rest (store image layout before)))
+      (read-number (store image layout before .image) layout block buffer ∙ passed)
 
   found-last : found (length image) layout fits block (store image layout before .image) ≡ (0, dataOf (shapeOf layout) (validBlock (shapeOf layout) last))
   found-last =
       ap (found (length image) layout fits block) memory-is
       ∙ read-right (memory (length image) layout fits) (some-blocks image layout fits)
-      (partsOf image layout fits (before ++ read layout block buffer ∷ rest))
+      (partsOf image layout (before ++ read layout block buffer ∷ rest))
       (parts-spaced image layout fits (before ++ read layout block buffer ∷ rest) spaced)
-      (partsOf image layout fits before)
+      (partsOf image layout before)
       later
       block
       read-part
@@ -148,7 +139,7 @@ pub reads-right : (image : List ℕ) (layout : Layout) → ReadsRight image layo
 reads-right image layout steps one words spaced before rest named block buffer e answer left promise accepted =
     let number = sym (ap answerNumber (promise .answers)) ∙ accepted in
     let same = one before rest (read named block buffer) e number in
-    let passed = sym (read-number named block (store image layout before) buffer) ∙ number in
+    let passed = sym (read-number (store image layout before .image) named block buffer) ∙ number in
     let any = subst (λ (other : Layout). Right image layout before rest block buffer other) (sym same) (right image layout before rest block buffer) in
     let both = any (rw e at one) (rw e at words) (rw e at spaced) passed in
     (λ lost. both .0 (sym (ap answerVerdict (promise .answers)) ∙ lost), promise .leaves ∙ both .1)

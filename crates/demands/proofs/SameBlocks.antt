@@ -7,6 +7,7 @@ use mathlib.Core.Logic.{⊎-elim}
 use native.Mathlib.Omega.{arith}
 use lib.ListN.{getD, replicate, length-replicate, getD-replicate, List·getD-eq-default}
 use lib.Pow.{pow-pos}
+use Rattle.ground.proofs.Lists.{list-is, listOf-same}
 use Rattle.lane.specs.Bit.{bit, _⊕_}
 use Rattle.lane.specs.Lane.{diff, apart}
 use Rattle.lane.proofs.Linear.{count-same}
@@ -17,7 +18,6 @@ use Rattle.block.specs.Shape.{before, rows, words}
 use Rattle.block.specs.Words.{row, lane}
 use Rattle.block.specs.Block.{validBlock, dataOf, SameRows, Fitting}
 use Rattle.block.proofs.Data.{dataRow, entry-row}
-use Rattle.ground.proofs.Lists.{list-is, listOf-same}
 use Rattle.block.proofs.ValidBlocks.{valid-only, zero-valid}
 
 module _ (kind : Shape) (a b : List ℕ) where

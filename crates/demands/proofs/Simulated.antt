@@ -8,8 +8,12 @@ use Rattle.ground.specs.Choice.{ifZero}
 use Rattle.block.specs.Block.{validBlock}
 use Rattle.layout.specs.declared.Layout.{Layout}
 use Rattle.layout.specs.Layout.{shapeOf, blocks}
-use Rattle.layout.specs.Refusal.{imageRefusal, blockRefusal}
+use Rattle.layout.specs.Refusal.{imageRefusal}
 use Rattle.layout.proofs.Ladder.{image-layout}
+use Rattle.store.specs.Image.{placed}
+use Rattle.store.specs.Refusal.{dataRefusal}
+use Rattle.store.specs.Visit.{visitAfter}
+use Rattle.store.specs.Write.{writeAfter}
 use Rattle.rota.specs.declared.Rota.{Rota}
 use Rattle.rota.specs.declared.Due.{Due}
 use Rattle.rota.specs.declared.Due.the-variants.{Refused as NoneDue, One as OneDue, Two as TwoDue}
@@ -18,50 +22,30 @@ use Rattle.rota.specs.Patrol.{visited, memoryRun}
 use Rattle.rota.specs.Record.{rotaTurned}
 use Rattle.rota.specs.Steps.{other, rotaRun}
 use Rattle.rota.specs.Touches.{write as writes, read as reads, visit as visits}
-use Rattle.store.specs.Image.{placed}
-use Rattle.store.specs.Refusal.{dataRefusal}
-use Rattle.store.specs.Visit.{visitAnswer, visitAfter}
-use Rattle.store.specs.Write.{writeAnswer, writeAfter}
-use Rattle.store.specs.Read.{readAnswer}
-use Rattle.store.proofs.Answers.{answered-number}
 use Rattle.patrol.specs.Ask.{asked}
 use Rattle.patrol.specs.Turn.{patrolled, turned, turnAfter}
 use Rattle.demands.specs.Steps.{Step, write, read, visit, ask, turn, flip, State, stepAfter, after, answers}
 use Rattle.demands.specs.Demand3.{SameLayout}
-use Rattle.demands.proofs.Lasting.{step-size, step-layout}
+use Rattle.demands.proofs.Numbers.{write-number, visit-number}
+use Rattle.demands.proofs.Lasting.{step-size, after-size, step-layout, after-layout}
 use Rattle.demands.proofs.ImageMemory.{imageMemory}
 use Rattle.demands.proofs.Appended.{rota-append, memory-append}
 use Rattle.demands.proofs.Parts.{MemoryTouch, calls, parts, allParts}
-
--- ---- a call is accepted where its refusal is 0
-
-module _ (layout : Layout) (block : ℕ) (state : State) where
-  pub write-number : (list : List ℕ) → answers (write layout block list) state ≡ dataRefusal (length (state .image)) layout block (length list)
-  unfolding writeAnswer
-  write-number list = answered-number (dataRefusal (length (state .image)) layout block (length list)) _ refl
-
-  pub read-number : (buffer : List ℕ) → answers (read layout block buffer) state ≡ dataRefusal (length (state .image)) layout block (length buffer)
-  unfolding readAnswer
-  read-number buffer = answered-number (dataRefusal (length (state .image)) layout block (length buffer)) _ refl
-
-  pub visit-number : answers (visit layout block) state ≡ blockRefusal (length (state .image)) layout block
-  unfolding visitAnswer
-  visit-number = answered-number (blockRefusal (length (state .image)) layout block) _ refl
 
 -- every accepted call from a state on names the layout
 abbrev pub LayoutFrom : Layout → State → List Step → Type 0
 LayoutFrom layout state steps =
     (before rest : List Step) (step : Step) → steps ≡ before ++ step ∷ rest → answers step (after before state) ≡ 0 → SameLayout layout step
 
-pub layout-first : (layout : Layout) (state : State) (step : Step) (rest : List Step) → LayoutFrom layout state (step ∷ rest)
+pub first-named : (layout : Layout) (state : State) (step : Step) (rest : List Step) → LayoutFrom layout state (step ∷ rest)
     → answers step state ≡ 0 → SameLayout layout step
 unfolding after
-layout-first layout state step rest one = one [] rest step refl
+first-named layout state step rest one = one [] rest step refl
 
-pub layout-rest : (layout : Layout) (state : State) (step : Step) (rest : List Step) → LayoutFrom layout state (step ∷ rest)
+pub rest-named : (layout : Layout) (state : State) (step : Step) (rest : List Step) → LayoutFrom layout state (step ∷ rest)
     → LayoutFrom layout (stepAfter step state) rest
 unfolding after
-layout-rest layout state step rest one before later next e = one (step ∷ before) later next (ap (λ (l : List Step). step ∷ l) e)
+rest-named layout state step rest one before later next e = one (step ∷ before) later next (ap (λ (l : List Step). step ∷ l) e)
 
 module _ (len : ℕ) (layout : Layout) (fits : imageRefusal len layout ≡ 0) where
   abbrev pub memory : Memory (blocks layout)
@@ -76,9 +60,7 @@ module _ (len : ℕ) (layout : Layout) (fits : imageRefusal len layout ≡ 0) wh
   step-stays step state ok = record { size = step-size step state ∙ ok .size; names = step-layout step state ∙ ok .names }
 
   pub run-stays : (steps : List Step) (state : State) → OfStore state → OfStore (after steps state)
-  unfolding after
-  run-stays [] state ok = ok
-  run-stays (step ∷ rest) state ok = run-stays rest (stepAfter step state) (step-stays step state ok)
+  run-stays steps state ok = record { size = after-size steps state ∙ ok .size; names = after-layout steps state ∙ ok .names }
 
   -- ---- a step
 
@@ -109,7 +91,8 @@ module _ (len : ℕ) (layout : Layout) (fits : imageRefusal len layout ≡ 0) wh
         → writeAfter (state .image) named block list ≡ memoryRun memory (parts (write named block list) state) (state .patrol .rota) (state .image)
     unfolding writeAfter memoryRun
     write-parts named block list same =
-        rw (write-number named block state list) (go (dataRefusal (length (state .image)) named block (length list)) (write-number named block state list))
+        let number = write-number (state .image) named block list in
+        rw number (go (dataRefusal (length (state .image)) named block (length list)) number)
       where
         go : (number : ℕ) → answers (write named block list) state ≡ number
             → ifZero number (placed named block (validBlock (shapeOf named) list) (state .image)) (state .image)
@@ -133,7 +116,7 @@ module _ (len : ℕ) (layout : Layout) (fits : imageRefusal len layout ≡ 0) wh
             → visitAfter (state .image) named block
             ≡ memoryRun memory (calls number (visits block ∷ [])) (state .patrol .rota) (state .image)
         go zero e = rw (same e)
-        go (suc number) e = unfold visitAfter in rw (sym (visit-number named block state) ∙ e)
+        go (suc number) e = unfold visitAfter in rw (sym (visit-number (state .image) named block) ∙ e)
 
     due-parts : (d : Due) → patrolled layout (state .image) d ≡ visited memory d (state .image)
     due-parts (NoneDue number) = refl
@@ -170,8 +153,8 @@ module _ (len : ℕ) (layout : Layout) (fits : imageRefusal len layout ≡ 0) wh
   unfolding after allParts memoryRun
   run-image [] state ok one = refl
   run-image (step ∷ rest) state ok one =
-      run-image rest (stepAfter step state) (step-stays step state ok) (layout-rest layout state step rest one)
+      run-image rest (stepAfter step state) (step-stays step state ok) (rest-named layout state step rest one)
       ∙ ap₂ (memoryRun memory (allParts rest (stepAfter step state)))
       (step-rota step state ok)
-      (step-image state ok step (layout-first layout state step rest one))
+      (step-image state ok step (first-named layout state step rest one))
       ∙ sym (memory-append memory (parts step state) (allParts rest (stepAfter step state)) (state .patrol .rota) (state .image))

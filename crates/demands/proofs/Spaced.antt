@@ -23,7 +23,7 @@ module _ (image : List ℕ) (layout : Layout) (fits : imageRefusal (length image
       let first = geometry layout (image-layout layout (length image) fits) .s-first in
       (suc (rowAt layout at), omega arith, row-below layout at, sym (index-at layout first at))
 
-  pub parts-spaced : (steps : List Step) → FlipsSpaced image layout steps → Spaced (memory (length image) layout fits) (partsOf image layout fits steps)
+  pub parts-spaced : (steps : List Step) → FlipsSpaced image layout steps → Spaced (memory (length image) layout fits) (partsOf image layout steps)
   parts-spaced steps spaced pre mid post f h e same =
       let start = fresh image layout in
       let later = whole-step (other (flips h)) (flip (h .0) (h .1)) refl steps start (pre ++ other (flips f) ∷ mid) post e in

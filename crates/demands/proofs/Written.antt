@@ -13,7 +13,8 @@ use Rattle.store.specs.Refusal.{dataRefusal}
 use Rattle.store.proofs.Ladder.{data-accepted}
 use Rattle.demands.specs.Steps.{Step, write, read, visit, ask, turn, flip, State, stepAfter, answers, meant, lastWritten}
 use Rattle.demands.specs.Demand3.{SameLayout, WordsWritten}
-use Rattle.demands.proofs.Simulated.{write-number, LayoutFrom, layout-first, layout-rest}
+use Rattle.demands.proofs.Numbers.{write-number}
+use Rattle.demands.proofs.Simulated.{LayoutFrom, first-named, rest-named}
 
 -- a list of as many words as a block of the layout has
 pub record DataOf (layout : Layout) (list : List ℕ) : Type 0 where
@@ -27,7 +28,7 @@ module _ (layout : Layout) (block : ℕ) where
   meant-data old (write named to list) state same small ok = go (answers (write named to list) state) refl (eqb to block)
     where
       passed : answers (write named to list) state ≡ 0 → dataRefusal (length (state .image)) named to (length list) ≡ 0
-      passed e = sym (write-number named to state list) ∙ e
+      passed e = sym (write-number (state .image) named to list) ∙ e
 
       go : (number : ℕ) → answers (write named to list) state ≡ number → (t : Bool) → DataOf layout (ifZero number (cond t list old) old)
       go zero e true =
@@ -48,8 +49,8 @@ module _ (layout : Layout) (block : ℕ) where
   unfolding lastWritten
   written-data [] old state one words ok = ok
   written-data (step ∷ rest) old state one words ok =
-      written-data rest (meant block old step state) (stepAfter step state) (layout-rest layout state step rest one)
+      written-data rest (meant block old step state) (stepAfter step state) (rest-named layout state step rest one)
       (λ before later named to list e. words (step ∷ before) later named to list (ap (λ (l : List Step). step ∷ l) e))
-      (meant-data old step state (layout-first layout state step rest one)
+      (meant-data old step state (first-named layout state step rest one)
       (λ named to list e. words [] rest named to list (ap (λ (x : Step). x ∷ rest) e))
       ok)

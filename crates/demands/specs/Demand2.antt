@@ -6,11 +6,11 @@ use mathlib.Core.List.{List}
 use mathlib.Core.Logic.{_↔_}
 use Rattle.block.specs.declared.Shape.{Shape}
 use Rattle.block.specs.Block.{ValidBlock, dataOf, bitsChanged, lanesLost, Near, SameRows, Fitting}
+use Rattle.layout.specs.declared.Layout.{Layout}
+use Rattle.layout.specs.Layout.{shapeOf}
 use Rattle.store.specs.declared.Answer.{Answer}
 use Rattle.store.specs.Answer.{answerNumber, answerVerdict, answerCount}
 use Rattle.store.specs.Image.{gathered, Untouched}
-use Rattle.layout.specs.declared.Layout.{Layout}
-use Rattle.layout.specs.Layout.{shapeOf}
 use Rattle.store.specs.Write.{writeAnswer, writeAfter}
 use Rattle.store.specs.Read.{readAnswer, readBuffer}
 use Rattle.store.specs.Visit.{visitAnswer, visitAfter}

@@ -12,10 +12,10 @@ use lib.ListN.{length, getD, replicate}
 use Rattle.layout.specs.declared.Layout.{Layout}
 use Rattle.layout.specs.Layout.{rowsOf, wordsOf, blocks, index}
 use Rattle.layout.specs.Refusal.{imageRefusal}
-use Rattle.rota.specs.declared.Place.the-variants.{Given}
 use Rattle.store.specs.declared.Answer.{Answer}
 use Rattle.store.specs.Answer.{answerNumber, answerVerdict}
 use Rattle.store.specs.Read.{Reads}
+use Rattle.rota.specs.declared.Place.the-variants.{Given}
 use Rattle.patrol.specs.declared.Report.{Report}
 use Rattle.patrol.specs.declared.Report.the-variants.{Refused, One, Two}
 use Rattle.patrol.specs.Ask.{asked}

@@ -7,13 +7,13 @@ use lib.Bits.{bitXor}
 use lib.Dec.{eqb, ltb}
 use lib.ListN.{getD, set}
 use Rattle.ground.specs.Choice.{ifZero}
-use Rattle.rota.specs.Numbers.{placeNumber}
 use Rattle.layout.specs.declared.Layout.{Layout}
 use Rattle.store.specs.Answer.{answerNumber}
 use Rattle.store.specs.Fresh.{freshAfter}
 use Rattle.store.specs.Write.{writeAnswer, writeAfter}
 use Rattle.store.specs.Read.{readAnswer}
 use Rattle.store.specs.Visit.{visitAnswer, visitAfter}
+use Rattle.rota.specs.Numbers.{placeNumber}
 use Rattle.patrol.specs.declared.Record.{Record}
 use Rattle.patrol.specs.declared.Report.{Report}
 use Rattle.patrol.specs.Numbers.{reportNumber}
