@@ -1,5 +1,5 @@
 -- What holds of every list of steps from the fresh record, and over a fresh memory: every turn is accepted, n turns running visit
--- every block, an ask is served by the turn that its place says, and every read is right where flips are far enough noneTwice.
+-- every block, an ask is served by the turn that its place says, and every read is right where flips are far enough apart.
 -- Assumes nothing.
 use Prim.Native.Nat.{ℕ, zero, suc, _+_, _-_, _≤_, _<_}
 use mathlib.Core.Path.{_≡_, refl, ap, _∙_}
