@@ -1,6 +1,6 @@
 -- A block is valid if all 32 lanes are. For each choice of data there is exactly one valid block.
 -- A block is mended lane by lane; if a lane is lost, not one word is altered, its good lanes included. Assumes nothing.
-use Prim.Native.Nat.{ℕ, zero, suc, _-_, _^_, _≤_, _<_}
+use Prim.Native.Nat.{ℕ, suc, _-_, _^_, _≤_, _<_}
 use mathlib.Core.Path.{_≡_}
 use mathlib.Core.Bool.{cond}
 use mathlib.Core.List.{List}

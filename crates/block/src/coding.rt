@@ -1,6 +1,6 @@
 // The valid block for a list of data words, and the data words of a block.
 ghost use mathlib.Core.Path.{_≡_};
-ghost use Prim.Native.Nat.{_-_, _≤_, _<_};
+ghost use Prim.Native.Nat.{_-_, _<_};
 ghost use lib.ListN.{length, getD, replicate};
 ghost use Rattle.ground.specs.Stores.{stores};
 ghost use Rattle.block.specs.Block.{dataBlock, validBlock, dataInto};

@@ -27,25 +27,25 @@ use Rattle.demands.proofs.Numbers.{write-number, read-number, visit-num
 use Rattle.demands.proofs.OneBlock.{mends, clean-same, lost-same, clean-numbers, kept-numbers}
 
 module _ (image : List ℕ) (layout : Layout) (block : ℕ) where
-  abbrev kind : Shape
-  kind = shapeOf layout
+  abbrev shape : Shape
+  shape = shapeOf layout
 
   abbrev found : List ℕ
   found = gathered layout block image
 
-  long : rows kind ≤ length found
-  long = rw (length-gathered layout block image) (rows-fit kind)
+  long : rows shape ≤ length found
+  long = rw (length-gathered layout block image) (rows-fit shape)
 
   -- a block that is left as it was leaves the image as it was
-  unaltered : blockRefusal (length image) layout block ≡ 0 → mendedBlock kind found ≡ found → visitAfter image layout block ≡ image
+  unaltered : blockRefusal (length image) layout block ≡ 0 → mendedBlock shape found ≡ found → visitAfter image layout block ≡ image
   unfolding visitAfter
   unaltered e same = rw (e, same) (placed-gathered layout block image)
 
-  lost-left : (lanesLost kind found ≡ 0 → ⊥) → mendedBlock kind found ≡ found
+  lost-left : (lanesLost shape found ≡ 0 → ⊥) → mendedBlock shape found ≡ found
   unfolding mendedBlock
-  lost-left some = refused-kept (lanesLost kind found) _ found some
+  lost-left some = refused-kept (lanesLost shape found) _ found some
 
-  says : blockRefusal (length image) layout block ≡ 0 → visitAnswer image layout block ≡ Found (verdictOf kind found)
+  says : blockRefusal (length image) layout block ≡ 0 → visitAnswer image layout block ≡ Found (verdictOf shape found)
   unfolding visitAnswer
   says e = rw e
 
@@ -55,9 +55,9 @@ module _ (image : List ℕ) (layout : Layout) (block : ℕ) where
       let small = gathered-words layout block image fits in
       rw (says e)
       (record {
-        mends = rw (visit-held image layout block e) (mends kind found small long);
-        lost-unaltered = λ l. unaltered e (lost-left (lost-same kind found small long l));
-        clean-unaltered = λ c. let z = clean-numbers kind found small long c in unaltered e (clean-same kind found small long (z .0) (z .1));
+        mends = rw (visit-held image layout block e) (mends shape found small long);
+        lost-unaltered = λ l. unaltered e (lost-left (lost-same shape found small long l));
+        clean-unaltered = λ c. let z = clean-numbers shape found small long c in unaltered e (clean-same shape found small long (z .0) (z .1));
         untouched = visit-untouched image layout block;
       })
 
@@ -66,9 +66,9 @@ module _ (image : List ℕ) (layout : Layout) (block : ℕ) where
   write-stores list fits e =
       let exact = data-accepted (length image) layout block (length list) e .1 in
       record {
-        valid = rw (write-held image layout block list e) (valid-is kind list);
-        holds = rw (write-held image layout block list e) (holds-data kind list fits exact);
-        only = rw (write-held image layout block list e) (λ other small v d. valid-only kind list fits other small v exact d);
+        valid = rw (write-held image layout block list e) (valid-is shape list);
+        holds = rw (write-held image layout block list e) (holds-data shape list fits exact);
+        only = rw (write-held image layout block list e) (λ other small v d. valid-only shape list fits other small v exact d);
         untouched = write-untouched image layout block list;
       }
 
@@ -83,8 +83,8 @@ module _ (image : List ℕ) (layout : Layout) (block : ℕ) where
       rw (e, says v)
       (record {
         same = refl;
-        mended = λ ne. rw (kept-numbers kind found small long ne, visit-held image layout block v);
-        stays = λ l. refused-kept (lanesLost kind found) (dataOf kind (mendedBlock kind found)) buffer (lost-same kind found small long l);
+        mended = λ ne. rw (kept-numbers shape found small long ne, visit-held image layout block v);
+        stays = λ l. refused-kept (lanesLost shape found) (dataOf shape (mendedBlock shape found)) buffer (lost-same shape found small long l);
       })
 
 -- a call that answers number 0 was not refused

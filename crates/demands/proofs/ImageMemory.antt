@@ -31,7 +31,8 @@ use Rattle.store.proofs.Image.{length-gathered, gathered-row, gathered-words, l
 use Rattle.rota.specs.Memory.{Memory}
 use Rattle.demands.specs.Steps.{flipped}
 use Rattle.demands.proofs.Index.{blockAt, rowAt, only-at}
-use Rattle.demands.proofs.SameBlocks.{same-apart, same-data, zeros-at, zeros-fit, zeros-block}
+use Rattle.demands.proofs.SameBlocks.{same-apart, same-data}
+use Rattle.store.proofs.FreshBlocks.{length-fresh, fresh-words, fresh-block}
 use Rattle.demands.proofs.Flips.{length-flipped, flipped-words, other-bit, count-single}
 
 -- two pairs of numbers are the same or not
@@ -45,8 +46,8 @@ pair? u v =
     (λ ne. no (λ p. ne (ap (λ (x : ℕ × ℕ). x .0) p)))
 
 module _ (len : ℕ) (layout : Layout) (fits : imageRefusal len layout ≡ 0) where
-  abbrev kind : Shape
-  kind = shapeOf layout
+  abbrev shape : Shape
+  shape = shapeOf layout
 
   pub first : 1 ≤ layout .s
   first = geometry layout (image-layout layout len fits) .s-first
@@ -59,15 +60,15 @@ module _ (len : ℕ) (layout : Layout) (fits : imageRefusal len layout ≡ 0) wh
   -- a lane is a block and a bit; how far it is from the lane where the data is written
   abbrev pub OffBy : ℕ → List ℕ → ℕ × ℕ → List ℕ → Type 0
   OffBy k image u list =
-      u .1 < 32 → apart (before kind) (lane (u .1) (gathered layout (u .0) image)) (lane (u .1) (validBlock kind list)) ≤ k
+      u .1 < 32 → apart (before shape) (lane (u .1) (gathered layout (u .0) image)) (lane (u .1) (validBlock shape list)) ≤ k
 
   -- what a read finds: the lanes lost, and the data of the mended block
   abbrev pub found : ℕ → List ℕ → ℕ × List ℕ
   found block image =
-      (lanesLost kind (gathered layout block image), dataOf kind (mendedBlock kind (gathered layout block image)))
+      (lanesLost shape (gathered layout block image), dataOf shape (mendedBlock shape (gathered layout block image)))
 
-  pub as-meant : (image : List ℕ) (u : ℕ × ℕ) (list : List ℕ) → SameRows kind (gathered layout (u .0) image) (validBlock kind list) → OffBy 0 image u list
-  as-meant image u list h l = omega (arith, same-apart kind (gathered layout (u .0) image) (validBlock kind list) h (u .1))
+  pub as-meant : (image : List ℕ) (u : ℕ × ℕ) (list : List ℕ) → SameRows shape (gathered layout (u .0) image) (validBlock shape list) → OffBy 0 image u list
+  as-meant image u list h l = omega (arith, same-apart shape (gathered layout (u .0) image) (validBlock shape list) h (u .1))
 
   -- where a block is gathered as before, its lanes are as far off as before
   pub unmoved : (k : ℕ) (image new : List ℕ) (u : ℕ × ℕ) (list : List ℕ) → gathered layout (u .0) new ≡ gathered layout (u .0) image
@@ -80,29 +81,29 @@ module _ (len : ℕ) (layout : Layout) (fits : imageRefusal len layout ≡ 0) wh
     abbrev here : List ℕ
     here = gathered layout block image
 
-    long : rows kind ≤ length here
-    long = rw (length-gathered layout block image) (rows-fit kind)
+    long : rows shape ≤ length here
+    long = rw (length-gathered layout block image) (rows-fit shape)
 
-    near : Near kind here (validBlock kind list)
+    near : Near shape here (validBlock shape list)
     near i h = off (block, i) refl h
 
-    pub none-lost : lanesLost kind here ≡ 0
-    none-lost = near-none kind here long (validBlock kind list) (valid-is kind list) near
+    pub none-lost : lanesLost shape here ≡ 0
+    none-lost = near-none shape here long (validBlock shape list) (valid-is shape list) near
 
-    pub mended-rows : SameRows kind (mendedBlock kind here) (validBlock kind list)
+    pub mended-rows : SameRows shape (mendedBlock shape here) (validBlock shape list)
     mended-rows =
-        near-rows kind here long (validBlock kind list) (valid-is kind list) near
-        (mended-fits kind here (gathered-words layout block image (ok .small)))
-        (valid-fits kind list)
+        near-rows shape here long (validBlock shape list) (valid-is shape list) near
+        (mended-fits shape here (gathered-words layout block image (ok .small)))
+        (valid-fits shape list)
 
-    pub found-right : found block image ≡ (0, dataOf kind (validBlock kind list))
-    found-right = λ i. (none-lost i, same-data kind (mendedBlock kind here) (validBlock kind list) mended-rows i)
+    pub found-right : found block image ≡ (0, dataOf shape (validBlock shape list))
+    found-right = λ i. (none-lost i, same-data shape (mendedBlock shape here) (validBlock shape list) mended-rows i)
 
   -- ---- a flip
 
   module _ (at place : ℕ) (image : List ℕ) (u : ℕ × ℕ) where
     -- a row of the lane is as it was, unless the flip is in that lane and that row
-    row-kept : (k : ℕ) → k < rows kind → (u .0 ≡ blockAt layout at → k ≡ rowAt layout at → u .1 ≡ place → ⊥)
+    row-kept : (k : ℕ) → k < rows shape → (u .0 ≡ blockAt layout at → k ≡ rowAt layout at → u .1 ≡ place → ⊥)
         → lane (u .1) (gathered layout (u .0) (flipped at place image)) (suc k) ≡ lane (u .1) (gathered layout (u .0) image) (suc k)
     row-kept k h ne =
         ap (bit (u .1)) (gathered-row layout (u .0) (flipped at place image) k h)
@@ -115,31 +116,24 @@ module _ (len : ℕ) (layout : Layout) (fits : imageRefusal len layout ≡ 0) wh
         omega (
           arith,
           off l,
-          count-same (rows kind)
-              (diff (lane (u .1) (gathered layout (u .0) (flipped at place image))) (lane (u .1) (validBlock kind list)))
-              (diff (lane (u .1) (gathered layout (u .0) image)) (lane (u .1) (validBlock kind list)))
+          count-same (rows shape)
+              (diff (lane (u .1) (gathered layout (u .0) (flipped at place image))) (lane (u .1) (validBlock shape list)))
+              (diff (lane (u .1) (gathered layout (u .0) image)) (lane (u .1) (validBlock shape list)))
               (λ j h.
-              ap (λ (b : Bool). b ⊕ lane (u .1) (validBlock kind list) (suc j)) (row-kept j h (λ e r f. ne (λ i. (sym e i, sym f i))))),
+              ap (λ (b : Bool). b ⊕ lane (u .1) (validBlock shape list) (suc j)) (row-kept j h (λ e r f. ne (λ i. (sym e i, sym f i))))),
         )
 
     pub flip-there : (list : List ℕ) → OffBy 0 image u list → OffBy 1 (flipped at place image) u list
     flip-there list off l =
-        count-single (rows kind) (diff (lane (u .1) (gathered layout (u .0) (flipped at place image))) (lane (u .1) (validBlock kind list))) (rowAt layout at)
+        count-single (rows shape) (diff (lane (u .1) (gathered layout (u .0) (flipped at place image))) (lane (u .1) (validBlock shape list))) (rowAt layout at)
         (λ j h ne.
-        ap (λ (b : Bool). b ⊕ lane (u .1) (validBlock kind list) (suc j)) (row-kept j h (λ e r f. ne r))
-        ∙ empty (rows kind) (diff (lane (u .1) (gathered layout (u .0) image)) (lane (u .1) (validBlock kind list))) (omega (arith, off l)) j h)
+        ap (λ (b : Bool). b ⊕ lane (u .1) (validBlock shape list) (suc j)) (row-kept j h (λ e r f. ne r))
+        ∙ empty (rows shape) (diff (lane (u .1) (gathered layout (u .0) image)) (lane (u .1) (validBlock shape list))) (omega (arith, off l)) j h)
 
   -- ---- a fresh image
 
-  pub fresh-word : (k : ℕ) → getD (freshImage layout) k 0 ≡ 0
-  unfolding freshImage
-  fresh-word k = zeros-at (rowsOf layout * blocks layout) k
-
   pub fresh-sound : Sound (freshImage layout)
-  unfolding freshImage
-  fresh-sound =
-      let size = rowsOf layout * blocks layout in
-      record { size = length-replicate size 0 ∙ sym (image-exact layout len fits); small = zeros-fit size }
+  fresh-sound = record { size = length-fresh layout ∙ sym (image-exact layout len fits); small = fresh-words layout }
 
   -- ---- the memory
 
@@ -154,47 +148,45 @@ module _ (len : ℕ) (layout : Layout) (fits : imageRefusal len layout ≡ 0) wh
         block = λ u. u .0;
         lane = λ f. (blockAt layout (f .0), f .1);
         lane? = pair?;
-        zeros = replicate (words kind) 0;
+        zeros = replicate (words shape) 0;
         fresh = freshImage layout;
         visit = λ block image. visitAfter image layout block;
-        write = λ block list image. placed layout block (validBlock kind list) image;
+        write = λ block list image. placed layout block (validBlock shape list) image;
         flip = λ f. flipped (f .0) (f .1);
         read = found;
-        gives = λ list. (0, dataOf kind (validBlock kind list));
+        gives = λ list. (0, dataOf shape (validBlock shape list));
         Good = Sound;
         fresh-good = fresh-sound;
         visit-good = λ block image ok.
             record { size = visit-untouched image layout block .size ∙ ok .size; small = visit-words image layout block (ok .small) };
         write-good = λ block list image ok.
             record {
-              size = length-placed layout block (validBlock kind list) image ∙ ok .size;
-              small = placed-words layout block (validBlock kind list) image (valid-fits kind list) (ok .small);
+              size = length-placed layout block (validBlock shape list) image ∙ ok .size;
+              small = placed-words layout block (validBlock shape list) image (valid-fits shape list) (ok .small);
             };
         flip-good = λ f image ok. record { size = length-flipped (f .0) (f .1) image ∙ ok .size; small = flipped-words (f .0) (f .1) image (ok .small) };
         Off = OffBy;
         off-more = λ image u list ok off l. omega (arith, off l);
         fresh-zeros = λ u l.
-            as-meant (freshImage layout) u (replicate (words kind) 0)
-            (zeros-block kind (gathered layout (u .0) (freshImage layout)) (gathered-words layout (u .0) (freshImage layout) (fresh-sound .small))
-            (λ j h. gathered-row layout (u .0) (freshImage layout) j h ∙ fresh-word (index layout (u .0) (suc j))));
+            as-meant (freshImage layout) u (replicate (words shape) 0) (fresh-block layout (u .0));
         visit-here = λ block image list ok l off u e.
             as-meant (visitAfter image layout block) u list
             (rw (e, visit-held image layout block (rw (ok .size) (block-accepted layout len block fits l))) (mended-rows block image list ok off));
         visit-away = λ block image u list ok ne k off.
             unmoved k image (visitAfter image layout block) u list (visit-untouched image layout block .others (u .0) ne) off;
         write-here = λ block list image u ok l e.
-            as-meant (placed layout block (validBlock kind list) image) u list
+            as-meant (placed layout block (validBlock shape list) image) u list
             (rw (
               e,
-              gathered-placed layout block (first) (validBlock kind list) image
+              gathered-placed layout block (first) (validBlock shape list) image
                   (λ p a b. rw (ok .size, image-exact layout len fits) (in-range (rowsOf layout) (layout .s) first (layout .g) block p l a b))
-                  (length-valid kind list)
-                  (valid-out kind list),
+                  (length-valid shape list)
+                  (valid-out shape list),
             )
             (λ j h. refl));
         write-away = λ block new image u list ok ne k off.
-            unmoved k image (placed layout block (validBlock kind new) image) u list
-            (placed-untouched layout block (first) (validBlock kind new) image .others (u .0) ne)
+            unmoved k image (placed layout block (validBlock shape new) image) u list
+            (placed-untouched layout block (first) (validBlock shape new) image .others (u .0) ne)
             off;
         flip-here = λ f image u list ok e off. flip-there (f .0) (f .1) image u list off;
         flip-away = λ f image u list ok ne k off. flip-elsewhere (f .0) (f .1) image u ne list k off;

@@ -13,9 +13,8 @@ use Rattle.store.proofs.After.{visit-untouched, write-untouched}
 use Rattle.rota.specs.declared.Due.{Due}
 use Rattle.rota.specs.declared.Due.the-variants.{Refused as NoneDue, One as OneDue, Two as TwoDue}
 use Rattle.patrol.specs.declared.Record.{Record}
-use Rattle.patrol.specs.Ask.{asked}
-use Rattle.patrol.specs.Turn.{visited, patrolled, turnedNow, turned, turnAfter}
-use Rattle.patrol.proofs.Numbers.{askedBy, turnedBy}
+use Rattle.patrol.specs.Ask.{asked, askedBy}
+use Rattle.patrol.specs.Turn.{visited, patrolled, turnedNow, turned, turnAfter, turnedBy}
 use Rattle.demands.specs.Steps.{Step, write, read, visit, ask, turn, flip, State, fresh, stepAfter, after}
 use Rattle.demands.specs.Demand3.{store}
 use Rattle.demands.proofs.Flips.{length-flipped}

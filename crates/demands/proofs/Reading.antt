@@ -23,7 +23,7 @@ use Rattle.demands.specs.Steps.{Step, write, read, fresh, lastWritten}
 use Rattle.demands.specs.Demand3.{WordsWritten, store, OneLayout, FlipsSpaced, ReadsRight}
 use Rattle.demands.proofs.Numbers.{read-number}
 use Rattle.demands.proofs.OneBlock.{lost-some}
-use Rattle.demands.proofs.SameBlocks.{zeros-fit}
+use Rattle.store.proofs.FreshBlocks.{zeros-fit}
 use Rattle.demands.proofs.Lasting.{store-size}
 use Rattle.demands.proofs.ImageMemory.{found}
 use Rattle.demands.proofs.Parts.{Part, calls, allParts, parts-append, parts-written}

@@ -10,9 +10,8 @@ use Rattle.layout.specs.Layout.{layoutOf}
 use Rattle.layout.specs.Refusal.{layoutRefusal, imageRefusal}
 use Rattle.rota.specs.declared.Place.the-variants.{Given}
 use Rattle.patrol.specs.declared.Record.{Record}
-use Rattle.patrol.specs.Ask.{asked}
+use Rattle.patrol.specs.Ask.{asked, askedBy}
 use Rattle.patrol.specs.Format.{freshRecord, noRecord, formatted}
-use Rattle.patrol.proofs.Numbers.{askedBy}
 use Rattle.demands.specs.Steps.{Step, fresh}
 use Rattle.demands.specs.Demand3.{store}
 use Rattle.demands.proofs.Lasting.{after-layout}

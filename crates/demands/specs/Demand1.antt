@@ -2,8 +2,8 @@
 -- Assumes nothing.
 use Prim.Native.Nat.{ℕ}
 use mathlib.Core.Path.{_≡_}
-use mathlib.Core.List.{List}
-use lib.ListN.{length, replicate}
+use mathlib.Core.List.{List, _++_}
+use lib.ListN.{length}
 use Rattle.ground.specs.Rules.{Rule, Ruled}
 use Rattle.layout.specs.declared.Layout.{Layout}
 use Rattle.layout.specs.Reason.{imageRules, blockRules}
@@ -19,7 +19,7 @@ use Rattle.patrol.specs.declared.Record.{Record}
 use Rattle.patrol.specs.Format.{noRecord, formatted}
 use Rattle.patrol.specs.Ask.{asked}
 use Rattle.patrol.specs.Turn.{turned, turnAfter}
-use Rattle.patrol.specs.Numbers.{reportNumber, reportWords}
+use Rattle.patrol.specs.Numbers.{reportNumber, noVisit, reportWords}
 use Rattle.patrol.specs.Reason.{askRules, turnRules}
 
 -- a call on an image that goes by a list of rules, with what was lent to it and what is left there
@@ -40,7 +40,7 @@ pub record AskRefusing (r : Record) (block : ℕ) : Type 1 where
 
 pub record TurnRefusing (r : Record) (image : List ℕ) : Type 1 where
   pub ruled : Ruled (turnRules r (length image)) (reportNumber (turned r image .report))
-  pub bare : (reportNumber (turned r image .report) ≡ 0 → ⊥) → reportWords (turned r image .report) ≡ replicate 6 0
+  pub bare : (reportNumber (turned r image .report) ≡ 0 → ⊥) → reportWords (turned r image .report) ≡ noVisit ++ noVisit
   pub unchanged : (reportNumber (turned r image .report) ≡ 0 → ⊥) → (turned r image .back ≡ r) × (turnAfter r image ≡ image)
 
 -- the demand: of every call, whatever its arguments

@@ -1,12 +1,12 @@
 -- The worked examples 1 to 12, as one list: what the definitions give, and what they must give.
 -- Shape 1 unless said; rows not named are zero. Assumes nothing.
 use Prim.Native.Nat.{ℕ, zero, suc, _-_}
-use mathlib.Core.List.{List, [], _∷_}
+use mathlib.Core.List.{List, [], _∷_, _++_}
 use lib.ListN.{set, replicate}
 use Rattle.block.specs.declared.Shape.{Shape}
 use Rattle.block.specs.declared.Shape.the-variants.{One, Two}
 use Rattle.block.specs.Block.{blank, validBlock, mendedBlock}
-use Rattle.block.specs.Verdict.{verdictOf, verdictNumber, verdictCount}
+use Rattle.block.specs.Verdict.{verdictOf, verdictWords}
 use Rattle.layout.specs.Layout.{layoutOf, index}
 
 pub record Example : Type 0 where
@@ -31,7 +31,7 @@ writes shape list block = record { gives = validBlock shape list; must = block }
 abbrev pub visits : Shape → List ℕ → ℕ → ℕ → List ℕ → Example
 visits shape found number count after =
     record {
-      gives = verdictNumber (verdictOf shape found) ∷ verdictCount (verdictOf shape found) ∷ mendedBlock shape found;
+      gives = verdictWords (verdictOf shape found) ++ mendedBlock shape found;
       must = number ∷ count ∷ after;
     }
 

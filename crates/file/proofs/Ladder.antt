@@ -1,9 +1,8 @@
 -- The refusals of a file: how the code's tests give them, and that each ladder is the first of its rules. Assumes nothing.
 use Prim.Native.Nat.{ℕ, zero, suc, _-_, _*_, _/_, _%_, _≤_}
-use mathlib.Core.Bool.{Bool, true, false, not}
+use mathlib.Core.Bool.{not}
 use mathlib.Core.Path.{_≡_, refl, sym, _∙_}
 use mathlib.Core.List.{List, [], _∷_, _++_}
-use mathlib.Core.Logic.{_⊎_, inl, inr, ⊎-elim}
 use native.Mathlib.Decide.{ℕ-discrete}
 use native.Mathlib.Omega.{arith}
 use borrow.Author.Tests.{eq-eqb, ne-eqb, eqb-true, eqb-false, ltb-true, ltb-false, not-true, not-false}
@@ -11,7 +10,7 @@ use lib.Dec.{eqb, ltb}
 use lib.ListN.{length, length-drop}
 use Rattle.layout.specs.declared.Layout.{Layout}
 use Rattle.layout.specs.Layout.{rowsOf, blocks}
-use Rattle.ground.specs.Ladder.{_when_else_, _then_}
+use Rattle.ground.specs.Ladder.{_then_}
 use Rattle.ground.specs.Rules.{Rule, FirstOf}
 use Rattle.ground.proofs.Ladder.{Rung, rung-test, then-first, then-assoc, then-zero, first-more, first-front, test-passed}
 use Rattle.layout.specs.Refusal.{layoutRefusal, imageRefusal}

@@ -12,7 +12,7 @@ use Rattle.layout.specs.Refusal.{imageRefusal}
 use Rattle.file.specs.declared.Header.the-variants.{Image}
 use Rattle.file.specs.Bytes.{layoutIn, wordCount, wordIn, wordsIn, wordsInto}
 use Rattle.file.specs.Refusal.{fileRefusal}
-use Rattle.file.specs.Header.{headerNumber, headerIf, headerOf}
+use Rattle.file.specs.Header.{headerIf, headerOf}
 use Rattle.file.proofs.Ladder.{accepted, body-words, frame-passed}
 
 -- a lent image of as many words as the file has holds those words
@@ -24,15 +24,6 @@ words-fill bytes image e =
     (λ k h. stores-hit image (λ k. k) (wordIn bytes) k (wordCount (length bytes)) (λ j l q. q) h (omega arith)))
 
 -- ---- the layout that a header names
-
--- a header has the number of the file's refusal
-pub header-number : (bytes : List ℕ) → headerNumber (headerOf bytes) ≡ fileRefusal bytes
-unfolding headerOf
-header-number bytes = by (fileRefusal bytes)
-  where
-    by : (n : ℕ) → headerNumber (headerIf n (Image (layoutIn bytes))) ≡ n
-    by zero = refl
-    by (suc n) = refl
 
 -- the layout is the one in the bytes, and the file is accepted
 pub header-layout : (bytes : List ℕ) (layout : Layout) → headerOf bytes ≡ Image layout → (fileRefusal bytes ≡ 0) × (layout ≡ layoutIn bytes)

@@ -31,11 +31,6 @@ pub rung-tests : (rule : Rule) (t u : Bool)
 rung-tests rule true u when-true also when-false = inl (when-true refl, refl)
 rung-tests rule false u when-true also when-false = rung-test rule u also (when-false refl)
 
--- a test that fails for the rule's reason
-pub rung-told : (rule : Rule) {t : Bool} → Told (rule .reason) t → Rung rule (rule .number when not t else 0)
-rung-told rule (holds p) = inl (p, refl)
-rung-told rule (fails p) = inr (p, refl)
-
 -- two tests that both hold for the rule's reason
 pub rung-both : (rule : Rule) {t u : Bool} {P Q : Type 0} → Told P t → Told Q u
     → ((P → ⊥) → (Q → ⊥) → rule .reason)

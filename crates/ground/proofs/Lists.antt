@@ -3,7 +3,7 @@ use Prim.Native.Nat.{ℕ, zero, suc, _<_}
 use mathlib.Core.Path.{_≡_, refl, sym, ap, _∙_}
 use mathlib.Core.List.{List}
 use native.Mathlib.Omega.{arith}
-use lib.ListN.{length, getD}
+use lib.ListN.{length, getD, replicate}
 use lib.Seq.{ext-getD}
 use Rattle.ground.specs.Lists.{listOf}
 
@@ -23,3 +23,9 @@ list-is n l f e h = ext-getD 0 l (listOf n f) (e ∙ sym (length-listOf n f)) (�
 
 pub listOf-same : (n : ℕ) (f g : ℕ → ℕ) → ((j : ℕ) → j < n → f j ≡ g j) → listOf n f ≡ listOf n g
 listOf-same n f g h = list-is n (listOf n f) g (length-listOf n f) (λ j k. getD-listOf n f j k ∙ h j k)
+
+-- the words of a list of zeros
+pub zeros-at : (n k : ℕ) → _≡_ {A = ℕ} (getD (replicate n 0) k 0) 0
+zeros-at zero k = refl
+zeros-at (suc n) zero = refl
+zeros-at (suc n) (suc k) = zeros-at n k

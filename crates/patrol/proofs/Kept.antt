@@ -17,10 +17,10 @@ use Rattle.rota.proofs.Numbers as rotaNumbers
 use Rattle.store.specs.Fresh.{freshAfter}
 use Rattle.patrol.specs.declared.Record.{Record}
 use Rattle.patrol.specs.Format.{noRecord, formatted}
-use Rattle.patrol.specs.Ask.{withRota, asked}
-use Rattle.patrol.specs.Turn.{patrolled, turnedNow, turned, turnAfter}
+use Rattle.patrol.specs.Ask.{withRota, askedBy, asked}
+use Rattle.patrol.specs.Turn.{patrolled, turnedNow, turnedBy, turned, turnAfter}
 use Rattle.patrol.specs.Numbers.{reportNumber}
-use Rattle.patrol.proofs.Numbers.{askedBy, ask-number, turnedBy, turn-number}
+use Rattle.patrol.proofs.Numbers.{ask-number, turn-number}
 
 pub format-kept : (image : List ℕ) (layout : Layout) → (formatted image layout .number ≡ 0 → ⊥)
     → (formatted image layout .back ≡ noRecord) × (freshAfter image layout ≡ image)

@@ -4,7 +4,6 @@ use mathlib.Core.Path.{_≡_, refl, sym, ap, ap₂, _∙_}
 use mathlib.Core.List.{List, _++_}
 use native.Mathlib.Omega.{arith}
 use lib.ListN.{length}
-use Rattle.ground.specs.Choice.{ifZero}
 use Rattle.ground.specs.Ladder.{_then_}
 use Rattle.block.proofs.Verdicts.{verdict-words-apart, verdict-words-some}
 use Rattle.layout.specs.declared.Layout.{Layout}
@@ -18,12 +17,10 @@ use Rattle.rota.specs.Numbers.{placeNumber, placeGiven, dueNumber}
 use Rattle.rota.specs.Record.{askNumber, turnNumber}
 use Rattle.rota.proofs.Numbers as rotaNumbers
 use Rattle.patrol.specs.declared.Record.{Record}
-use Rattle.patrol.specs.declared.Asked.{Asked}
 use Rattle.patrol.specs.declared.Report.{Report}
 use Rattle.patrol.specs.declared.Report.the-variants.{Refused, One, Two}
-use Rattle.patrol.specs.declared.Turned.{Turned}
-use Rattle.patrol.specs.Ask.{withRota, askedNow, asked}
-use Rattle.patrol.specs.Turn.{reported, turnedNow, turned}
+use Rattle.patrol.specs.Ask.{askedBy, asked}
+use Rattle.patrol.specs.Turn.{reported, turnedNow, turnedBy, turned}
 use Rattle.patrol.specs.Numbers.{reportNumber, noVisit, reportWords}
 
 -- ---- the numbers tell the reports apart
@@ -70,16 +67,11 @@ module _ (r : Record) where
   -- ---- ask
 
   module _ (block : ℕ) where
-    -- the answer, by the number of the layout's refusal
-    abbrev pub askedBy : ℕ → Asked
-    askedBy number =
-        ifZero number (record { place = askedNow r block .place; back = withRota r (askedNow r block .rota) }) (record { place = NoPlace number; back = r })
-
     pub ask-number : placeNumber (asked r block .place) ≡ layoutRefusal (r .layout) then askNumber (blocks (r .layout)) (r .rota) block
     unfolding asked
     ask-number = go (layoutRefusal (r .layout))
       where
-        go : (number : ℕ) → placeNumber (askedBy number .place) ≡ number then askNumber (blocks (r .layout)) (r .rota) block
+        go : (number : ℕ) → placeNumber (askedBy r block number .place) ≡ number then askNumber (blocks (r .layout)) (r .rota) block
         go zero = rotaNumbers.ask-number (blocks (r .layout)) (r .rota) block
         go (suc number) = refl
 
@@ -87,24 +79,18 @@ module _ (r : Record) where
     unfolding asked
     ask-numbered = go (layoutRefusal (r .layout))
       where
-        go : (number : ℕ) → askedBy number .place ≡ NoPlace 0 → ⊥
+        go : (number : ℕ) → askedBy r block number .place ≡ NoPlace 0 → ⊥
         go zero e = rotaNumbers.ask-numbered (blocks (r .layout)) (r .rota) block e
         go (suc number) e = let z : suc number ≡ 0 = ap placeNumber e in omega arith
 
   -- ---- turn
 
   module _ (image : List ℕ) where
-    abbrev pub turnedBy : ℕ → Turned
-    turnedBy number =
-        ifZero number
-        (record { report = reported (r .layout) image (turnedNow r .due); back = withRota r (turnedNow r .rota) })
-        (record { report = Refused number; back = r })
-
     pub turn-number : reportNumber (turned r image .report) ≡ imageRefusal (length image) (r .layout) then turnNumber (blocks (r .layout)) (r .rota)
     unfolding turned
     turn-number = go (imageRefusal (length image) (r .layout))
       where
-        go : (number : ℕ) → reportNumber (turnedBy number .report) ≡ number then turnNumber (blocks (r .layout)) (r .rota)
+        go : (number : ℕ) → reportNumber (turnedBy r image number .report) ≡ number then turnNumber (blocks (r .layout)) (r .rota)
         go zero = reported-number (r .layout) image (turnedNow r .due) ∙ rotaNumbers.turn-number (blocks (r .layout)) (r .rota)
         go (suc number) = refl
 
@@ -112,6 +98,6 @@ module _ (r : Record) where
     unfolding turned
     turn-numbered = go (imageRefusal (length image) (r .layout))
       where
-        go : (number : ℕ) → turnedBy number .report ≡ Refused 0 → ⊥
+        go : (number : ℕ) → turnedBy r image number .report ≡ Refused 0 → ⊥
         go zero e = rotaNumbers.turn-numbered (blocks (r .layout)) (r .rota) (reported-refused (r .layout) image (turnedNow r .due) e)
         go (suc number) e = let z : suc number ≡ 0 = ap reportNumber e in omega arith

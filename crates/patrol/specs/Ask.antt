@@ -18,8 +18,10 @@ withRota r rota = record { layout = r .layout; rota = rota }
 abbrev pub askedNow : Record → ℕ → Rattle.rota.specs.declared.Asked.Asked
 askedNow r block = rotaAsked (blocks (r .layout)) (r .rota) block
 
+-- what ask answers, by the number of the layout's refusal
+abbrev pub askedBy : Record → ℕ → ℕ → Asked
+askedBy r block number =
+    ifZero number (record { place = askedNow r block .place; back = withRota r (askedNow r block .rota) }) (record { place = Refused number; back = r })
+
 unfoldable pub asked : Record → ℕ → Asked
-asked r block =
-    ifZero (layoutRefusal (r .layout))
-    (record { place = askedNow r block .place; back = withRota r (askedNow r block .rota) })
-    (record { place = Refused (layoutRefusal (r .layout)); back = r })
+asked r block = askedBy r block (layoutRefusal (r .layout))

@@ -45,12 +45,15 @@ patrolled layout image (TwoDue first second) = visited layout (visited layout im
 abbrev pub turnedNow : Record → RotaTurned
 turnedNow r = rotaTurned (blocks (r .layout)) (r .rota)
 
--- what turn answers
-unfoldable pub turned : Record → List ℕ → Turned
-turned r image =
-    ifZero (imageRefusal (length image) (r .layout))
+-- what turn answers, by the number of the image's refusal
+abbrev pub turnedBy : Record → List ℕ → ℕ → Turned
+turnedBy r image number =
+    ifZero number
     (record { report = reported (r .layout) image (turnedNow r .due); back = withRota r (turnedNow r .rota) })
-    (record { report = Refused (imageRefusal (length image) (r .layout)); back = r })
+    (record { report = Refused number; back = r })
+
+unfoldable pub turned : Record → List ℕ → Turned
+turned r image = turnedBy r image (imageRefusal (length image) (r .layout))
 
 -- the image that turn leaves
 unfoldable pub turnAfter : Record → List ℕ → List ℕ

@@ -1,6 +1,6 @@
 // The report of a file: its refusal, or what the visit of each block finds.
 ghost use mathlib.Core.Path.{_≡_};
-ghost use Prim.Native.Nat.{_*_, _<_};
+ghost use Prim.Native.Nat.{_<_};
 ghost use lib.ListN.{length};
 ghost use Rattle.layout.specs.Layout.{blocks};
 ghost use Rattle.layout.specs.Refusal.{imageRefusal};
@@ -63,7 +63,7 @@ fn report_image(image: &mut [u32], layout: Layout, out: &mut [u8]) -> usize
 }
 
 // Copies the words of a file to an image of their number, and visits each block there.
-fn report_words(bytes: &[u8], image: &mut [u32], layout: Layout, out: &mut [u8]) -> usize
+fn report_copied(bytes: &[u8], image: &mut [u32], layout: Layout, out: &mut [u8]) -> usize
     requires { ⌜ (length (now image) ≡ wordCount (length (now bytes))) × (imageRefusal (wordCount (length (now bytes))) layout ≡ 0) ⌝ }
     ensures prints { λ r. ⌜ page (now (out .exit)) r ≡ writtenAll (imageReport (wordsIn (now (bytes .entry))) layout) (page (now (out .entry)) 0) ⌝ }
     ensures leaves { λ r. ⌜ now (image .exit) ≡ visitedBelow (wordsIn (now (bytes .entry))) layout (blocks layout) ⌝ }
@@ -83,7 +83,7 @@ pub fn inspect(bytes: &[u8], image: &mut [u32], out: &mut [u8]) -> usize
             if image.len() < count {
                 return 0;
             }
-            report_words(bytes, &mut image[..count], layout, out)
+            report_copied(bytes, &mut image[..count], layout, out)
         }
     }
 }

@@ -1,11 +1,12 @@
 -- The specification's number, verdict and count tell the answers apart. Assumes nothing.
 use Prim.Native.Nat.{ℕ, zero, suc}
 use mathlib.Core.Path.{_≡_, refl, sym, ap}
+use mathlib.Core.List.{[], _∷_}
 use native.Mathlib.Omega.{arith}
 use Rattle.block.proofs.Verdicts.{verdict-some, verdicts-apart}
 use Rattle.store.specs.declared.Answer.{Answer}
 use Rattle.store.specs.declared.Answer.the-variants.{Refused, Stored, Found}
-use Rattle.store.specs.Answer.{answerNumber, answerVerdict, answerCount, answered}
+use Rattle.store.specs.Answer.{answerNumber, answerVerdict, answerCount, answerWords, answered}
 
 -- a refusal has a number that is not 0
 abbrev pub Proper : Answer → Type 0
@@ -28,11 +29,6 @@ answers-apart (Found u) (Refused n) p q e v c = absurd (q (omega arith))
 answers-apart (Found u) Stored p q e v c = absurd (verdict-some u v)
 answers-apart (Found u) (Found w) p q e v c = ap Found (verdicts-apart u w v c)
 
--- every call's answer is proper
-pub answered-proper : (number : ℕ) (answer : Answer) → Proper answer → Proper (answered number answer)
-answered-proper zero answer p = p
-answered-proper (suc number) answer p = λ z. omega arith
-
 -- ---- a call that is refused: its number is the answer
 
 pub answered-refused : (number : ℕ) (answer : Answer) → (number ≡ 0 → ⊥) → answered number answer ≡ Refused number
@@ -42,3 +38,9 @@ answered-refused (suc number) answer ne = refl
 pub answered-number : (number : ℕ) (answer : Answer) → answerNumber answer ≡ 0 → answerNumber (answered number answer) ≡ number
 answered-number zero answer e = e
 answered-number (suc number) answer e = refl
+
+-- an answer's words are its verdict and its count
+pub answer-words : (answer : Answer) → answerWords answer ≡ answerVerdict answer ∷ answerCount answer ∷ []
+answer-words (Refused number) = refl
+answer-words Stored = refl
+answer-words (Found verdict) = refl

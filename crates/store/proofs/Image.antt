@@ -4,10 +4,11 @@ use mathlib.Core.Path.{_≡_, refl, sym, ap, _∙_, fun-ext}
 use mathlib.Core.List.{List}
 use native.Mathlib.Omega.{arith}
 use native.Mathlib.Decide.{decLt}
-use lib.ListN.{length, getD, replicate}
+use lib.ListN.{length, getD}
 use lib.Pow.{pow-pos}
 use lib.Seq.{ext-getD}
 use Rattle.block.specs.Block.{blank, Fitting}
+use Rattle.ground.proofs.Lists.{zeros-at}
 use Rattle.ground.proofs.Stores.{length-stores, stores-miss, stores-hit, stores-agree, stores-same, stores-all}
 use Rattle.ground.specs.Stores.{stores}
 use Rattle.block.proofs.Judged.{rows-fit}
@@ -16,11 +17,6 @@ use Rattle.layout.specs.Layout.{shapeOf, rowsOf, index}
 use Rattle.store.specs.Image.{gathered, placed, Untouched}
 use Rattle.store.specs.Inner.{strideRead, strideWrite}
 use Rattle.layout.proofs.Index.{stride, one-to-one}
-
-zeros : (n k : ℕ) → _≡_ {A = ℕ} (getD (replicate n 0) k 0) 0
-zeros zero k = refl
-zeros (suc n) zero = refl
-zeros (suc n) (suc k) = zeros n k
 
 -- ---- one block
 
@@ -34,7 +30,7 @@ module _ (layout : Layout) (block : ℕ) where
   unfolding gathered
   gathered-rest image k h =
       stores-miss blank (λ k. k) (λ k. getD image (index layout block (suc k)) 0) k (rowsOf layout) (λ j hj e. omega arith)
-      ∙ zeros 72 k
+      ∙ zeros-at 72 k
 
   pub gathered-row : (image : List ℕ) (k : ℕ) → k < rowsOf layout → getD (gathered layout block image) k 0 ≡ getD image (index layout block (suc k)) 0
   unfolding gathered
@@ -46,7 +42,7 @@ module _ (layout : Layout) (block : ℕ) where
   unfolding gathered
   gathered-words image words =
       stores-all (λ w. w < 2 ^ 32) blank (λ k. k) (λ k. getD image (index layout block (suc k)) 0) (rowsOf layout)
-      (λ i. rw (zeros 72 i) (pow-pos 32))
+      (λ i. rw (zeros-at 72 i) (pow-pos 32))
       (λ k h. words (index layout block (suc k)))
 
   pub length-placed : (given image : List ℕ) → length (placed layout block given image) ≡ length image

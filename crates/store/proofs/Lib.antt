@@ -5,6 +5,7 @@ pub mod Rows
 pub mod Verdicts
 pub mod Strides
 pub mod Cleared
+pub mod FreshBlocks
 pub mod Answers
 pub mod After
 pub mod Calls

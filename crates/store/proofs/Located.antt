@@ -1,6 +1,6 @@
 -- What the site of a block tells of its rows, and of the list of data words or the buffer. Assumes nothing.
 use Prim.Native.Nat.{ℕ}
-use mathlib.Core.Path.{_≡_, ap, subst}
+use mathlib.Core.Path.{_≡_}
 use borrow.Author.Tests.{eq-eqb, ne-eqb}
 use Rattle.block.specs.declared.Shape.{Shape}
 use Rattle.block.specs.Shape.{rows, words}

@@ -21,7 +21,7 @@ abbrev two : tie.After-enum-told2 → tie.Start
 two c = c .before .before .before
 
 -- the data words of the shape that is told
-of-shape : {shape kind : Shape} → shape ≡ kind → (block buffer copied : List ℕ) → copied ≡ dataInto kind block buffer → copied ≡ dataInto shape block buffer
+of-shape : {shape known : Shape} → shape ≡ known → (block buffer copied : List ℕ) → copied ≡ dataInto known block buffer → copied ≡ dataInto shape block buffer
 of-shape told block buffer copied e = e ∙ ap (λ (s : Shape). dataInto s block buffer) (sym told)
 
 enum-told : tie.Need-enum-told

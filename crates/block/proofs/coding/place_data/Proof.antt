@@ -20,7 +20,7 @@ abbrev two : tie.After-enum-told2 → tie.Start
 two c = c .before .before .before
 
 -- the data block of the shape that is told
-of-shape : {shape kind : Shape} → shape ≡ kind → (list placed : List ℕ) → placed ≡ dataBlock kind list → placed ≡ dataBlock shape list
+of-shape : {shape known : Shape} → shape ≡ known → (list placed : List ℕ) → placed ≡ dataBlock known list → placed ≡ dataBlock shape list
 of-shape told list placed e = e ∙ ap (λ (s : Shape). dataBlock s list) (sym told)
 
 enum-told : tie.Need-enum-told

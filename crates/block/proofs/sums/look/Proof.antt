@@ -30,11 +30,11 @@ module _ (shape : Shape) (at : ℕ) (words sums : List ℕ) (n : ℕ) (size : ro
   all-there found all stored some = (λ a. (stored, some), λ short. absurd (short (omega arith)))
 
 -- the sums of the shape that the block has
-module _ {shape kind : Shape} (told : shape ≡ kind) (at : ℕ) (words : List ℕ) where
-  same-sums : (sums : List ℕ) → sums ≡ sumWords kind (drop at words) → sums ≡ sumWords shape (drop at words)
+module _ {shape known : Shape} (told : shape ≡ known) (at : ℕ) (words : List ℕ) where
+  same-sums : (sums : List ℕ) → sums ≡ sumWords known (drop at words) → sums ≡ sumWords shape (drop at words)
   same-sums sums e = e ∙ ap (λ (k : Shape). sumWords k (drop at words)) (sym told)
 
-  same-some : (some : ℕ) → some ≡ anyOf 8 (sumWords kind (drop at words)) → some ≡ anyOf 8 (sumWords shape (drop at words))
+  same-some : (some : ℕ) → some ≡ anyOf 8 (sumWords known (drop at words)) → some ≡ anyOf 8 (sumWords shape (drop at words))
   same-some some e = e ∙ ap (λ (k : Shape). anyOf 8 (sumWords k (drop at words))) (sym told)
 
 returns : tie.Need-returns

@@ -1,8 +1,8 @@
 -- `layout::Layout::locate` meets its contract: the ladder, and where it is passed the index of the block's first row. Assumes nothing.
 use Prim.Native.Nat.{ℕ, _*_, _%_, _≤_}
-use mathlib.Core.Path.{_≡_, sym, ap, ap₂, _∙_}
+use mathlib.Core.Path.{_≡_, sym, ap, _∙_}
 use borrow.Author.Needs.{needs}
-use borrow.Author.Tests.{le-leb, lt-leb}
+use borrow.Author.Tests.{le-leb}
 use native.Mathlib.Nat.{le-refl, mod-le, mul-le-mul, sub-le}
 use native.Mathlib.Omega.{arith}
 use Rattle.block.specs.Shape.{rows}

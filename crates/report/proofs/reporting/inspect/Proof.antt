@@ -21,7 +21,7 @@ start c = c .before .before .before .before
 abbrev header-read : tie.After-word-count → tie.After-read-header
 header-read c = c .before .before .before .before
 
-abbrev room-seen : tie.After-report-words-arg2 → tie.Else1
+abbrev room-seen : tie.After-report-copied-arg2 → tie.Else1
 room-seen c = c .before .before
 
 -- the header names a layout
@@ -48,16 +48,16 @@ word-count-requires c κs = search needs
 returns : tie.Need-returns
 returns c = report-no-room _ _ _ _ (header (c .before)) (omega (arith, c .before .word-count .ensures, c .if1 .taken))
 
-slice-relend-prefix-report-words : tie.Need-slice-relend-prefix-report-words
-slice-relend-prefix-report-words c = search needs
+slice-relend-prefix-report-copied : tie.Need-slice-relend-prefix-report-copied
+slice-relend-prefix-report-copied c = search needs
 
-slice-aggregate-report-words : tie.Need-slice-aggregate-report-words
-slice-aggregate-report-words c =
+slice-aggregate-report-copied : tie.Need-slice-aggregate-report-copied
+slice-aggregate-report-copied c =
     let counted = c .before .before in
     sym (length-take-le (counted .word-count .result) (start (header-read counted) .args .image .now) (c .before .if1 .left))
 
-report-words-requires : tie.Need-report-words-requires
-report-words-requires c κs =
+report-copied-requires : tie.Need-report-copied-requires
+report-copied-requires c κs =
     let counted = room-seen c .before in
     let a = start (header-read counted) .args in (
       length-take-le (counted .word-count .result) (a .image .now) (room-seen c .if1 .left) ∙ counted .word-count .ensures,
@@ -87,8 +87,8 @@ returns-3 c =
     let a = start (header-read (room .before)) .args in
     report-visited (a .bytes .now) (a .image .now) (a .out .now) _ _ _ (header (room .before)) _
     (omega (arith, count, room .if1 .left))
-    (reported .report-words .ensures .0)
-    (ap₂ (λ (words : List ℕ) (n : ℕ). words ++ drop n (a .image .now)) (reported .report-words .ensures .1) count)
+    (reported .report-copied .ensures .0)
+    (ap₂ (λ (words : List ℕ) (n : ℕ). words ++ drop n (a .image .now)) (reported .report-copied .ensures .1) count)
 
 pub inspect-spec : {M : Type 1} → statement M
 inspect-spec =
@@ -100,9 +100,9 @@ inspect-spec =
     enum-known-layout
     word-count-requires
     returns
-    slice-relend-prefix-report-words
-    slice-aggregate-report-words
-    report-words-requires
+    slice-relend-prefix-report-copied
+    slice-aggregate-report-copied
+    report-copied-requires
     same-length
     returns-2
     same-length-2

@@ -4,7 +4,7 @@ use borrow.Author.Needs.{needs}
 use native.Mathlib.Omega.{arith}
 use lib.ListN.{length}
 use Rattle.block.specs.Shape.{words}
-use Rattle.layout.proofs.Sites.{Located, located, refused}
+use Rattle.layout.proofs.Sites.{Located, located}
 use Rattle.store.proofs.Calls.{write-refused, write-stored}
 use Rattle.store.proofs.Located.{inside, data-refused, list-refused}
 use Rattle.store.proofs.writing.write.Statement.{statement}

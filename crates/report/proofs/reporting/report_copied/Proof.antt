@@ -1,4 +1,4 @@
--- `report::reporting::report_words` meets its contract: the image holds the words of the file when its blocks are visited. Assumes nothing.
+-- `report::reporting::report_copied` meets its contract: the image holds the words of the file when its blocks are visited. Assumes nothing.
 use Prim.Native.Nat.{ℕ}
 use mathlib.Core.Path.{ap, _∙_}
 use mathlib.Core.List.{List}
@@ -8,8 +8,8 @@ use Rattle.layout.specs.Refusal.{imageRefusal}
 use Rattle.file.proofs.Layouts.{words-fill}
 use Rattle.text.specs.Page.{page, writtenAll}
 use Rattle.report.specs.Report.{visitedBelow, imageReport}
-use Rattle.report.proofs.reporting.report_words.Statement.{statement}
-use Rattle.report.proofs.reporting.report_words.Tie as tie
+use Rattle.report.proofs.reporting.report_copied.Statement.{statement}
+use Rattle.report.proofs.reporting.report_copied.Tie as tie
 
 -- the entry, from where the words are read
 abbrev start : tie.After-read-words → tie.Start
@@ -42,7 +42,7 @@ returns c =
           ∙ ap (λ (image : List ℕ). visitedBelow image (a .layout) (blocks (a .layout))) words,
     )
 
-pub report-words-spec : {M : Type 1} → statement M
-report-words-spec =
+pub report-copied-spec : {M : Type 1} → statement M
+report-copied-spec =
     tie.close
     (tie.spec read-words-requires report-image-requires same-length same-length-2 returns)
