@@ -70,7 +70,8 @@ uint32_t foldgrebe_write (uint32_t *image, size_t words, uint32_t shape, uint32_
 
 /* Copies the block's mended data to the buffer (11 or 64 words); where it is lost the buffer stays as it was. The image
    is not altered: the verdict and count are what a visit would say. Refuses 1, 2, 3, 4, 6, 7. */
-uint32_t foldgrebe_read  (const uint32_t *image, size_t words, uint32_t shape, uint32_t s, uint32_t g, uint32_t block, uint32_t *buffer, size_t buffer_words, uint32_t verdict[FOLDGREBE_VERDICT_WORDS]);
+uint32_t foldgrebe_read  (const uint32_t *image, size_t words, uint32_t shape, uint32_t s, uint32_t g, uint32_t block, uint32_t *buffer,
+                         size_t buffer_words, uint32_t verdict[FOLDGREBE_VERDICT_WORDS]);
 
 /* Checks the block and mends it in place; a lost block is left as it is, its good lanes too. Refuses 1, 2, 3, 4, 6. */
 uint32_t foldgrebe_visit (uint32_t *image, size_t words, uint32_t shape, uint32_t s, uint32_t g, uint32_t block, uint32_t verdict[FOLDGREBE_VERDICT_WORDS]);

@@ -34,15 +34,16 @@ static void flip_a_bit(void)
     printf("flipped: row 5, lane 7 of block %u\n", BLOCK);
 }
 
-/* One turn visits one block. A real program makes a turn at each tick of a clock, for as long as it runs. */
+/* One turn visits one block, so as many turns as there are blocks visit all. A real program turns at each tick of a clock. */
 static void turn_while_clean(void)
 {
     uint32_t report[FOLDGREBE_REPORT_WORDS];
-    do {
+    for (int turns = 0; turns < INTERLEAVE * GROUPS; turns++) {
         expect_accepted("turn", foldgrebe_turn(record, image, WORDS, report));
         printf("turn: block %u %s %u\n", report[FOLDGREBE_REPORT_BLOCK], said[report[FOLDGREBE_REPORT_VERDICT]],
                report[FOLDGREBE_REPORT_COUNT]);
-    } while (report[FOLDGREBE_REPORT_VERDICT] == FOLDGREBE_CLEAN);
+        if (report[FOLDGREBE_REPORT_VERDICT] != FOLDGREBE_CLEAN) return;
+    }
 }
 
 /* Of a lost block nothing is copied. */
