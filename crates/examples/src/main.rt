@@ -1,4 +1,4 @@
-// Runs the paper's worked examples and stored vectors on the compiled code, and prints what came of them.
+// Runs the specification's worked examples and stored vectors on the compiled code, and prints what came of them.
 mod answers;
 mod calls;
 mod heads;

@@ -17,5 +17,8 @@ pub const VERDICT_WORDS: usize = 2;
 // A block and its verdict, twice over.
 pub const REPORT_WORDS: usize = 2 + 2 * VERDICT_WORDS;
 
-// Shape, s, G, next, how many wait, and the places.
-pub const RECORD_WORDS: usize = 5 + rota::PLACES;
+// Shape, s, G, next, how many wait.
+const FRONT_WORDS: usize = 5;
+
+// Those, and the places.
+pub const RECORD_WORDS: usize = FRONT_WORDS + rota::PLACES;

@@ -1,6 +1,7 @@
 // The record as words, and back: shape, s, G, next, how many wait, and the places.
 ghost use mathlib.Core.Path.{_≡_};
 ghost use Rattle.words.specs.Records.{recordOf, recordWords};
+use super::FRONT_WORDS;
 use super::RECORD_WORDS;
 use layout::Layout;
 use patrol::Record;
@@ -15,7 +16,7 @@ pub fn record_of(words: [u32; RECORD_WORDS]) -> Record
     let mut asks = [0u32; PLACES];
     let mut k = 0;
     while k < PLACES {
-        asks[k] = words[5 + k];
+        asks[k] = words[FRONT_WORDS + k];
         k += 1;
     }
     let line = Line {
@@ -50,7 +51,7 @@ pub fn record_words(record: Record) -> [u32; RECORD_WORDS]
     words[4] = line.waiting;
     let mut k = 0;
     while k < PLACES {
-        words[5 + k] = asks[k];
+        words[FRONT_WORDS + k] = asks[k];
         k += 1;
     }
     words
