@@ -1,4 +1,4 @@
-// The call that a vector's head names, on the image and on what is lent beside it: list, buffer or record.
+// The calls, answered by eight words, on an image and on what is lent beside it: list, buffer or record.
 use crate::answers::of_answer;
 use crate::answers::of_number;
 use crate::answers::of_place;
@@ -10,44 +10,59 @@ use crate::heads::READ;
 use crate::heads::TURN;
 use crate::heads::WRITE;
 use crate::lists::copy;
-use patrol::Record;
+use layout::Layout;
 use store::Answer;
 use words::RECORD_WORDS;
 
-// The record that these words hold.
-fn record_of(beside: &[u32]) -> Record {
-    let mut given = [0u32; RECORD_WORDS];
-    copy(beside, &mut given);
-    words::record_of(given)
-}
-
-// Puts the record that comes back.
-fn put_record(back: Record, beside: &mut [u32]) {
-    let told = words::record_words(back);
-    copy(&told, beside);
-}
-
 // Format, and the record that it gives.
-fn run_format(head: Head, image: &mut [u32], beside: &mut [u32]) -> [u32; 8] {
-    let formatted = patrol::format(image, head.layout);
-    put_record(formatted.back, beside);
+pub(crate) fn format(
+    image: &mut [u32],
+    layout: Layout,
+    back: &mut [u32; RECORD_WORDS],
+) -> [u32; 8] {
+    let formatted = patrol::format(image, layout);
+    *back = words::record_words(formatted.back);
     of_number(formatted.number)
 }
 
 // An ask, and the record that comes back.
-fn run_ask(block: u32, beside: &mut [u32]) -> [u32; 8] {
-    let asked = record_of(beside).ask(block);
+pub(crate) fn ask(back: &mut [u32; RECORD_WORDS], block: u32) -> [u32; 8] {
+    let asked = words::record_of(*back).ask(block);
+    *back = words::record_words(asked.back);
     let place = asked.place;
-    put_record(asked.back, beside);
     of_place(place)
 }
 
 // A turn, and the record that comes back.
-fn run_turn(image: &mut [u32], beside: &mut [u32]) -> [u32; 8] {
-    let turned = record_of(beside).turn(image);
+pub(crate) fn turn(back: &mut [u32; RECORD_WORDS], image: &mut [u32]) -> [u32; 8] {
+    let turned = words::record_of(*back).turn(image);
+    *back = words::record_words(turned.back);
     let report = turned.report;
-    put_record(turned.back, beside);
     of_report(report)
+}
+
+// A call of the patrol.
+fn run_patrol(head: Head, image: &mut [u32], back: &mut [u32; RECORD_WORDS]) -> [u32; 8] {
+    let call = head.call;
+    match call {
+        FORMAT => format(image, head.layout, back),
+        ASK => ask(back, head.block),
+        _ => turn(back, image),
+    }
+}
+
+// Puts the record that comes back among the words beside the image.
+fn put_back(back: &[u32; RECORD_WORDS], beside: &mut [u32]) {
+    copy(back, beside);
+}
+
+// A call of the patrol, with its record among those words.
+fn run_beside(head: Head, image: &mut [u32], beside: &mut [u32]) -> [u32; 8] {
+    let mut back = [0u32; RECORD_WORDS];
+    copy(beside, &mut back);
+    let answer = run_patrol(head, image, &mut back);
+    put_back(&back, beside);
+    answer
 }
 
 // A write, a read or a visit of a block.
@@ -66,9 +81,7 @@ fn run_block(head: Head, image: &mut [u32], beside: &mut [u32]) -> Answer {
 pub(crate) fn run(head: Head, image: &mut [u32], beside: &mut [u32]) -> [u32; 8] {
     let call = head.call;
     match call {
-        FORMAT => run_format(head, image, beside),
-        ASK => run_ask(head.block, beside),
-        TURN => run_turn(image, beside),
+        FORMAT | ASK | TURN => run_beside(head, image, beside),
         _ => of_answer(run_block(head, image, beside)),
     }
 }

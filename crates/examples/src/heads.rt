@@ -45,7 +45,7 @@ impl Head {
 
     // Whether no more is lent than this of an image and a list, and a record of just this length.
     fn lends(self, image: u32, list: u32, back: u32) -> bool {
-        self.image <= image && self.list <= list && self.back == back
+        (self.image <= image) & (self.list <= list) & (self.back == back)
     }
 
     // Whether the call is one of the six and is lent what it may be.

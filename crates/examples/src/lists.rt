@@ -12,22 +12,6 @@ fn put(words: &mut [u32], i: usize, word: u32) {
     }
 }
 
-// Sets a row of the only block of an image, or a word of a data list: both are numbered from 1.
-fn put_row(words: &mut [u32], row: usize, word: u32) {
-    if row != 0 {
-        put(words, row - 1, word);
-    }
-}
-
-// Sets each of these rows, or data words.
-pub(crate) fn put_rows(words: &mut [u32], rows: &[usize], word: u32) {
-    let mut i = 0;
-    while i < rows.len() {
-        put_row(words, rows[i], word);
-        i += 1;
-    }
-}
-
 // The first `count` words, or none where there are fewer.
 pub(crate) fn first(words: &[u32], count: usize) -> &[u32] {
     if count <= words.len() {
@@ -50,14 +34,6 @@ pub(crate) fn after(words: &[u32], count: usize) -> &[u32] {
         return &words[count..];
     }
     &words[0..0]
-}
-
-// The words after the first `count`, to be changed, or none where there are fewer.
-pub(crate) fn beyond(words: &mut [u32], count: usize) -> &mut [u32] {
-    if count <= words.len() {
-        return &mut words[count..];
-    }
-    &mut words[0..0]
 }
 
 // Copies as many words as both have.

@@ -32,11 +32,14 @@ fn tell_vectors() {
     io::write_all(STDOUT_FILENO, b"\n");
 }
 
-fn main() {
+fn tell_written() {
     tell(1, written::example_1());
     tell(2, written::example_2());
     tell(3, written::example_3());
     tell(4, written::example_4());
+}
+
+fn tell_visited() {
     tell(5, visited::example_5());
     tell(6, visited::example_6());
     tell(7, visited::example_7());
@@ -44,9 +47,18 @@ fn main() {
     tell(9, visited::example_9());
     tell(10, visited::example_10());
     tell(11, visited::example_11());
-    tell(12, written::example_12());
+}
+
+fn tell_patrolled() {
     tell(13, patrolled::example_13());
     tell(14, patrolled::example_14());
     tell(15, patrolled::example_15());
+}
+
+fn main() {
+    tell_written();
+    tell_visited();
+    tell(12, written::example_12());
+    tell_patrolled();
     tell_vectors();
 }

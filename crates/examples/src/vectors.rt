@@ -27,8 +27,31 @@ enum Outcome {
 fn left(expected: &[u32], answer: [u32; 8], image: &[u32], beside: &[u32]) -> bool {
     let words = after(expected, 8);
     same(first(expected, 8), &answer)
-        && same(first(words, image.len()), image)
-        && same(after(words, image.len()), beside)
+        & same(first(words, image.len()), image)
+        & same(after(words, image.len()), beside)
+}
+
+// Whether the call answers what is expected, and leaves it of what it is lent.
+fn leaves(head: Head, image: &mut [u32], beside: &mut [u32], expected: &[u32]) -> bool {
+    let answer = run(head, image, beside);
+    left(expected, answer, image, beside)
+}
+
+// Whether the call does so on copies of the words that follow the head.
+fn follows(head: Head, words: &[u32]) -> bool {
+    let mut image = [0u32; 145];
+    let mut beside = [0u32; 65];
+    let in_image = head.image as usize;
+    let in_beside = head.beside();
+    let others = after(words, in_image);
+    copy(words, &mut image);
+    copy(others, &mut beside);
+    leaves(
+        head,
+        lent(&mut image, in_image),
+        lent(&mut beside, in_beside),
+        after(others, in_beside),
+    )
 }
 
 // Whether the first `count` words are a vector whose call answers and leaves what it says.
@@ -36,25 +59,7 @@ fn agrees(words: &[u32; 436], count: u32) -> bool {
     let vector = first(words, count as usize);
     let head = Head::of(vector);
     if head.fits() {
-        let mut image = [0u32; 145];
-        let mut beside = [0u32; 65];
-        let in_image = head.image as usize;
-        let in_beside = head.beside();
-        let images = after(vector, 8);
-        let others = after(images, in_image);
-        copy(images, &mut image);
-        copy(others, &mut beside);
-        let answer = run(
-            head,
-            lent(&mut image, in_image),
-            lent(&mut beside, in_beside),
-        );
-        return left(
-            after(others, in_beside),
-            answer,
-            first(&image, in_image),
-            first(&beside, in_beside),
-        );
+        return follows(head, after(vector, 8));
     }
     false
 }

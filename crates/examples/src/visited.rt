@@ -1,6 +1,5 @@
 // Worked examples 5 to 11: what a visit finds, and what it leaves.
 use crate::answers::of_answer;
-use crate::lists::put_rows;
 use crate::lists::same;
 use layout::Layout;
 
@@ -8,7 +7,7 @@ use layout::Layout;
 fn visit_leaves(image: &mut [u32], shape: u32, verdict: u32, count: u32, after: &[u32]) -> bool {
     let alone = Layout { shape, s: 1, g: 1 };
     let answer = of_answer(store::visit(image, alone, 0));
-    same(&answer, &[0, 0, verdict, count, 0, 0, 0, 0]) && same(image, after)
+    same(&answer, &[0, 0, verdict, count, 0, 0, 0, 0]) & same(image, after)
 }
 
 // Whether a visit of this block of shape 1 mends so many bits and leaves these rows.
@@ -61,7 +60,9 @@ pub(crate) fn example_10() -> bool {
 // Shape 2, rows 1, 9 and 64 = 1: sum 72, odd: lost 1, unchanged.
 pub(crate) fn example_11() -> bool {
     let mut image = [0u32; 72];
-    put_rows(&mut image, &[1, 9, 64], 1);
+    image[0] = 1;
+    image[8] = 1;
+    image[63] = 1;
     let after = image;
     visit_leaves(&mut image, 2, 3, 1, &after)
 }
