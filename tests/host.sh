@@ -16,7 +16,7 @@ need() { command -v "$1" >/dev/null 2>&1 || want "$2"; }
 may_install() {
     [ -z "$install" ] || return 0
     [ -n "${CI:-}" ] && [ "$(id -u)" = 0 ] || return 1
-    [ -e /.dockerenv ] || [ -e /run/.containerenv ] || [ -n "${container:-}" ] || grep -qsE 'docker|containerd|kubepods|libpod|lxc' /proc/1/cgroup
+    [ -e /.dockerenv ] || [ -n "${container:-}" ] || grep -qsE 'docker|containerd|kubepods|libpod|lxc' /proc/1/cgroup
 }
 
 # Installs what is wanted, or says how and stops.

@@ -1,6 +1,7 @@
 // The first eight words of a vector: which call, its arguments, and how many words it is lent.
 use crate::lists::word_at;
 use layout::Layout;
+use words::RECORD_WORDS;
 
 // The numbers of the calls.
 pub(crate) const FORMAT: u32 = 1;
@@ -44,18 +45,18 @@ impl Head {
     }
 
     // Whether no more is lent than this of an image and a list, and a record of just this length.
-    fn lends(self, image: u32, list: u32, back: u32) -> bool {
-        (self.image <= image) & (self.list <= list) & (self.back == back)
+    fn lends(self, image: u32, list: u32, back: usize) -> bool {
+        (self.image <= image) & (self.list <= list) & (self.back as usize == back)
     }
 
     // Whether the call is one of the six and is lent what it may be.
     pub(crate) fn fits(self) -> bool {
         let call = self.call;
         match call {
-            FORMAT | TURN => self.lends(145, 0, 21),
+            FORMAT | TURN => self.lends(145, 0, RECORD_WORDS),
             WRITE | READ => self.lends(145, 65, 0),
             VISIT => self.lends(145, 0, 0),
-            ASK => self.lends(0, 0, 21),
+            ASK => self.lends(0, 0, RECORD_WORDS),
             _ => false,
         }
     }

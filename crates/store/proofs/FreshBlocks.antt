@@ -36,7 +36,9 @@ module _ (shape : Shape) (block : List ℕ) (fits : Fitting block) (none : (j : 
 
   pub zeros-block : SameRows shape block (validBlock shape (replicate (words shape) 0))
   zeros-block =
-      valid-only shape (replicate (words shape) 0) (zeros-fit (words shape)) block fits (zero-valid shape block none) (length-replicate (words shape) 0) zeros-data
+      valid-only shape (replicate (words shape) 0) (zeros-fit (words shape)) block fits (zero-valid shape block none)
+      (length-replicate (words shape) 0)
+      zeros-data
 
 -- ---- the fresh image
 
@@ -53,7 +55,8 @@ module _ (layout : Layout) where
   unfolding freshImage
   fresh-word k = zeros-at (rowsOf layout * blocks layout) k
 
-  pub fresh-block : (block : ℕ) → SameRows (shapeOf layout) (gathered layout block (freshImage layout)) (validBlock (shapeOf layout) (replicate (wordsOf layout) 0))
+  pub fresh-block
+      : (block : ℕ) → SameRows (shapeOf layout) (gathered layout block (freshImage layout)) (validBlock (shapeOf layout) (replicate (wordsOf layout) 0))
   fresh-block block =
       zeros-block (shapeOf layout) (gathered layout block (freshImage layout)) (gathered-words layout block (freshImage layout) fresh-words)
       (λ j h. gathered-row layout block (freshImage layout) j h ∙ fresh-word (index layout block (suc j)))
