@@ -58,12 +58,20 @@ static void measure_visits(void)
     flip(3, 9), flip(5, 9);
 }
 
-static void measure_read(void)
+static void measure_read(const char *call, uint32_t says)
 {
     uint32_t number;
-    COUNTED(next_case("read-clean"), number = foldgrebe_read(image, words, shape, s, GROUPS, block, buffer, data_words, verdict));
-    expect(number == 0 && verdict[FOLDGREBE_VERDICT_NUMBER] == FOLDGREBE_CLEAN, "read");
-    expect(memcmp(buffer, data, data_words * sizeof *data) == 0, "read");
+    COUNTED(next_case(call), number = foldgrebe_read(image, words, shape, s, GROUPS, block, buffer, data_words, verdict));
+    expect(number == 0 && verdict[FOLDGREBE_VERDICT_NUMBER] == says, call);
+    expect(memcmp(buffer, data, data_words * sizeof *data) == 0, call);
+}
+
+static void measure_reads(void)
+{
+    measure_read("read-clean", FOLDGREBE_CLEAN);
+    flip(7, 11);
+    measure_read("read-one-flip", FOLDGREBE_MENDED);
+    flip(7, 11);
 }
 
 static void measure_turn(const char *call, uint32_t asks)
@@ -89,7 +97,7 @@ static void measure_store(uint32_t in_shape, uint32_t interleave)
     expect(foldgrebe_format(image, words, shape, s, GROUPS, record) == 0, "format");
     measure_write();
     measure_visits();
-    measure_read();
+    measure_reads();
     measure_turns();
 }
 

@@ -55,15 +55,16 @@ module _ (shape : Shape) (block : List ℕ) where
   abbrev parity : ℕ
   parity = sumsOf shape block .parity
 
-  pub sums-are : (stored : List ℕ) → stored ≡ sums
+  pub sums-are : (stored : List ℕ) (found : ℕ) → stored ≡ sums → found ≡ anyOf 8 sums
       → (_≡_ {A = Sums}
       record {
         digits = getD stored 0 0 ∷ getD stored 1 0 ∷ getD stored 2 0 ∷ getD stored 3 0 ∷ getD stored 4 0 ∷ getD stored 5 0 ∷ getD stored 6 0 ∷ [];
         parity = bitXor (getD stored 0 0) (getD stored 7 0);
+        some = found;
       }
       (sumsOf shape block))
   unfolding listOf
-  sums-are stored e = rw e (ap (λ (p : ℕ). record { digits = digits; parity = p }) (parity-is shape block))
+  sums-are stored found e f = rw (e, f) (ap (λ (p : ℕ). record { digits = digits; parity = p; some = anyOf 8 sums }) (parity-is shape block))
 
   -- ---- nothing is found exactly if the block is clean
 
@@ -71,35 +72,35 @@ module _ (shape : Shape) (block : List ℕ) where
   unfolding anyOf listOf
   same-any = refl
 
+  pub quiet : anyOf 8 sums ≡ 0 → bitOr (anyOf 7 digits) parity ≡ 0
+  unfolding anyOf
+  quiet none =
+      let zero-at : (k : ℕ) → k < 8 → getD sums k 0 ≡ 0 = λ k h. omega (arith, any-more 8 sums k h) in
+      let m = or-more (anyOf 7 sums) (getD sums 7 0) in
+      let some : anyOf 7 digits ≡ 0 = omega (arith, m .0, same-any) in
+      ap₂ bitOr some (sym (parity-is shape block) ∙ ap₂ bitXor (zero-at 0 (lit< tt)) (zero-at 7 (lit< tt)))
+
+  pub heard : bitOr (anyOf 7 digits) parity ≡ 0 → anyOf 8 sums ≡ 0
+  unfolding anyOf
+  heard none =
+      let m = or-more (anyOf 7 digits) parity in
+      let some : anyOf 7 sums ≡ 0 = omega (arith, m .0, same-any) in
+      let first : getD sums 0 0 ≡ 0 = omega (arith, any-more 7 sums 0 (lit< tt)) in
+      let even : getD sums 7 0 ≡ 0 = ap (λ (w : ℕ). bitXor w (getD sums 7 0)) (sym first) ∙ parity-is shape block ∙ omega (arith, m .1) in
+      ap₂ bitOr some even
+
   module _ (fit : rows shape ≤ length block) (small : anyOf 8 sums < 2 ^ 32) where
-    any-lt : anyOf 7 digits < 2 ^ 32
+    pub any-lt : anyOf 7 digits < 2 ^ 32
     unfolding anyOf
     any-lt = let m = or-more (anyOf 7 sums) (getD sums 7 0) in omega (arith, m .0, same-any)
 
-    parity-lt : parity < 2 ^ 32
+    pub parity-lt : parity < 2 ^ 32
     parity-lt =
         omega (
           arith,
           parity-is shape block,
           xor-lt 32 (getD sums 0 0) (getD sums 7 0) (omega (arith, any-more 8 sums 0 (lit< tt))) (omega (arith, any-more 8 sums 7 (lit< tt))),
         )
-
-    quiet : anyOf 8 sums ≡ 0 → bitOr (anyOf 7 digits) parity ≡ 0
-    unfolding anyOf
-    quiet none =
-        let zero-at : (k : ℕ) → k < 8 → getD sums k 0 ≡ 0 = λ k h. omega (arith, any-more 8 sums k h) in
-        let m = or-more (anyOf 7 sums) (getD sums 7 0) in
-        let some : anyOf 7 digits ≡ 0 = omega (arith, m .0, same-any) in
-        ap₂ bitOr some (sym (parity-is shape block) ∙ ap₂ bitXor (zero-at 0 (lit< tt)) (zero-at 7 (lit< tt)))
-
-    heard : bitOr (anyOf 7 digits) parity ≡ 0 → anyOf 8 sums ≡ 0
-    unfolding anyOf
-    heard none =
-        let m = or-more (anyOf 7 digits) parity in
-        let some : anyOf 7 sums ≡ 0 = omega (arith, m .0, same-any) in
-        let first : getD sums 0 0 ≡ 0 = omega (arith, any-more 7 sums 0 (lit< tt)) in
-        let even : getD sums 7 0 ≡ 0 = ap (λ (w : ℕ). bitXor w (getD sums 7 0)) (sym first) ∙ parity-is shape block ∙ omega (arith, m .1) in
-        ap₂ bitOr some even
 
     unclean : (anyOf 8 sums ≡ 0 → ⊥) → false ≡ clean? (verdictOf shape block)
     unclean some = by (eqb (lostLanes (before shape) parity digits) 0) refl

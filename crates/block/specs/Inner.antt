@@ -28,14 +28,6 @@ unfoldable pub xorOver : List ℕ → List ℕ → ℕ
 xorOver [] block = zero
 xorOver (p ∷ l) block = bitXor (row p block) (xorOver l block)
 
--- digit k of every lane's sum, and every lane's parity
-abbrev pub sumsOf : Shape → List ℕ → Sums
-sumsOf shape block =
-    record {
-      digits = listOf 7 (λ k. xorOver (covered k (before shape)) block);
-      parity = xorOver (allRows (before shape)) block;
-    }
-
 -- the lanes with a one in any of the first k digits
 unfoldable pub anyOf : ℕ → List ℕ → ℕ
 anyOf zero digits = zero
@@ -50,6 +42,20 @@ abbrev pub sumWords : Shape → List ℕ → List ℕ
 sumWords shape block =
     let digit : ℕ → ℕ = λ k. xorOver (covered k (before shape)) block in
     digit 0 ∷ digit 1 ∷ digit 2 ∷ digit 3 ∷ digit 4 ∷ digit 5 ∷ digit 6 ∷ xorOver (evenRows (before shape)) block ∷ []
+
+-- digit k of every lane's sum, every lane's parity, and the lanes in which any of them is set
+abbrev pub sumsOf : Shape → List ℕ → Sums
+sumsOf shape block =
+    record {
+      digits = listOf 7 (λ k. xorOver (covered k (before shape)) block);
+      parity = xorOver (allRows (before shape)) block;
+      some = anyOf 8 (sumWords shape block);
+    }
+
+-- a gathered block with its digits and parities, one of which is set
+abbrev pub InDoubt : Shape → List ℕ → List ℕ → ℕ → Type 0
+InDoubt shape block digits parity =
+    (length block ≡ 72) × (digits ≡ sumsOf shape block .digits) × (parity ≡ sumsOf shape block .parity) × (sumsOf shape block .some ≡ 0 → ⊥)
 
 -- what is found of the block at `at`: its sums, and the lanes in which one is set; 1 where the block is not all there
 abbrev pub Looked : Shape → ℕ → List ℕ → ℕ → List ℕ → Type 0

@@ -5,7 +5,7 @@ ghost use Prim.Native.Nat.{ℕ, _≤_, _<_};
 ghost use Rattle.lane.specs.Bit.{bit};
 ghost use Rattle.block.specs.Block.{mendedBlock};
 ghost use Rattle.block.specs.Verdict.{verdictOf};
-ghost use Rattle.block.specs.Inner.{anyOf, aboveOf, sumAt, rowNamed, flippedIn};
+ghost use Rattle.block.specs.Inner.{anyOf, aboveOf, sumAt, rowNamed, flippedIn, InDoubt};
 use super::Shape;
 use super::Verdict;
 use super::shapes::rows_before;
@@ -76,23 +76,34 @@ fn flip_named(block: &mut [u32; 72], digits: &[u32; 7], parity: u32, last: usize
     }
 }
 
-// Decides a gathered block, and mends it where no lane is lost.
+// A block in doubt: lost where a lane is, and else mended.
+fn in_doubt(shape: Shape, block: &mut [u32; 72], digits: &[u32; 7], parity: u32) -> Verdict
+    requires { ⌜ InDoubt shape (now block) (now digits) parity ⌝ }
+    ensures verdict { λ r. ⌜ r ≡ verdictOf shape (now (block .entry)) ⌝ }
+    ensures after { λ r. ⌜ now (block .exit) ≡ mendedBlock shape (now (block .entry)) ⌝ }
+{
+    let top = rows_before(shape);
+    let lost = any(digits) & !parity | parity & above(digits, top);
+    if lost != 0 {
+        return Verdict::Lost(u32::count_ones(lost));
+    }
+    flip_named(block, digits, parity, top + 1);
+    Verdict::Mended(u32::count_ones(parity))
+}
+
+// Decides a gathered block, and mends it where no lane is lost. Doubt is rare: a call for each shape keeps it out of line.
 pub fn decide(shape: Shape, block: &mut [u32; 72]) -> Verdict
     ensures verdict { λ r. ⌜ r ≡ verdictOf shape (now (block .entry)) ⌝ }
     ensures after { λ r. ⌜ now (block .exit) ≡ mendedBlock shape (now (block .entry)) ⌝ }
 {
     let sums = lane_sums(shape, block);
-    let digits = sums.digits;
-    let parity = sums.parity;
-    let some = any(&digits);
-    if some | parity == 0 {
+    if sums.some == 0 {
         return Verdict::Clean;
     }
-    let top = rows_before(shape);
-    let lost = some & !parity | parity & above(&digits, top);
-    if lost != 0 {
-        return Verdict::Lost(u32::count_ones(lost));
+    let digits = sums.digits;
+    let parity = sums.parity;
+    match shape {
+        Shape::One => in_doubt(Shape::One, block, &digits, parity),
+        Shape::Two => in_doubt(Shape::Two, block, &digits, parity),
     }
-    flip_named(block, &digits, parity, top + 1);
-    Verdict::Mended(u32::count_ones(parity))
 }

@@ -9,10 +9,11 @@ use super::Shape;
 use super::shapes::rows;
 use super::tables::*;
 
-// Digit k of every lane's sum as a word, and every lane's parity as a word.
+// Digit k of every lane's sum as a word, every lane's parity as a word, and the lanes in which any of them is set.
 pub(crate) struct Sums {
     pub(crate) digits: [u32; 7],
     pub(crate) parity: u32,
+    pub(crate) some: u32,
 }
 
 // The exclusive or of the words of the listed rows, of the block whose first row is at `at`.
@@ -115,7 +116,7 @@ pub(crate) fn lane_sums(shape: Shape, block: &[u32]) -> Sums
     ensures { λ r. ⌜ r ≡ sumsOf shape (now (block .entry)) ⌝ }
 {
     let mut sums = [0u32; 8];
-    look(shape, &*block, 0, &mut sums);
+    let some = look(shape, &*block, 0, &mut sums);
     Sums {
         digits: [
             sums[0],
@@ -127,5 +128,6 @@ pub(crate) fn lane_sums(shape: Shape, block: &[u32]) -> Sums
             sums[6],
         ],
         parity: sums[0] ^ sums[7],
+        some,
     }
 }

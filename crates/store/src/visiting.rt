@@ -15,7 +15,7 @@ use layout::Layout;
 use layout::Site;
 
 // The rows at `at`, `at + s`, .. decided whole, and stored only where they were mended.
-pub(crate) fn mend(image: &mut [u32], shape: Shape, at: usize, s: usize) -> Verdict
+fn mend(image: &mut [u32], shape: Shape, at: usize, s: usize) -> Verdict
     requires { ⌜ Inside (length (now image)) (rows shape) at s ⌝ }
     ensures verdict { λ r. ⌜ r ≡ verdictOf shape (strideRead (now (image .entry)) at s blank (rows shape)) ⌝ }
     ensures after { λ r. ⌜ now (image .exit) ≡

@@ -12,38 +12,38 @@ slice-aggregate-look c = search needs
 look-requires : tie.Need-look-requires
 look-requires c κs = search needs
 
-array-read-t4 : tie.Need-array-read-t4
-array-read-t4 c = search needs
+array-read-t11 : tie.Need-array-read-t11
+array-read-t11 c = search needs
 
-array-read-t13 : tie.Need-array-read-t13
-array-read-t13 c = search needs
+array-read-t14 : tie.Need-array-read-t14
+array-read-t14 c = search needs
 
-array-read-t16 : tie.Need-array-read-t16
-array-read-t16 c = search needs
+array-read-t17 : tie.Need-array-read-t17
+array-read-t17 c = search needs
 
-array-read-t19 : tie.Need-array-read-t19
-array-read-t19 c = search needs
+array-read-t20 : tie.Need-array-read-t20
+array-read-t20 c = search needs
 
-array-read-t22 : tie.Need-array-read-t22
-array-read-t22 c = search needs
+array-read-t23 : tie.Need-array-read-t23
+array-read-t23 c = search needs
 
-array-read-t25 : tie.Need-array-read-t25
-array-read-t25 c = search needs
+array-read-t26 : tie.Need-array-read-t26
+array-read-t26 c = search needs
 
-array-read-t28 : tie.Need-array-read-t28
-array-read-t28 c = search needs
+array-read-t29 : tie.Need-array-read-t29
+array-read-t29 c = search needs
 
-array-read-t32 : tie.Need-array-read-t32
-array-read-t32 c = search needs
+array-read-t33 : tie.Need-array-read-t33
+array-read-t33 c = search needs
 
-array-read-t35 : tie.Need-array-read-t35
-array-read-t35 c = search needs
+array-read-t36 : tie.Need-array-read-t36
+array-read-t36 c = search needs
 
 returns : tie.Need-returns
 returns c =
     let start = c .before .before .before .before in
-    sums-are (start .args .shape) (start .args .block .now) _
-    (c .before .look .ensures .0 (omega (arith, start .pre, rows-fit (start .args .shape))) .0)
+    let looked = c .before .look .ensures .0 (omega (arith, start .pre, rows-fit (start .args .shape))) in
+    sums-are (start .args .shape) (start .args .block .now) _ _ (looked .0) (looked .1)
 
 pub lane-sums-spec : {M : Type 1} → statement M
 lane-sums-spec =
@@ -51,13 +51,13 @@ lane-sums-spec =
     (tie.spec
     slice-aggregate-look
     look-requires
-    array-read-t4
-    array-read-t13
-    array-read-t16
-    array-read-t19
-    array-read-t22
-    array-read-t25
-    array-read-t28
-    array-read-t32
-    array-read-t35
+    array-read-t11
+    array-read-t14
+    array-read-t17
+    array-read-t20
+    array-read-t23
+    array-read-t26
+    array-read-t29
+    array-read-t33
+    array-read-t36
     returns)

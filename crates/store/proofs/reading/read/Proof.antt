@@ -7,7 +7,6 @@ use Rattle.block.specs.Shape.{words}
 use Rattle.layout.proofs.Sites.{Located, located}
 use Rattle.store.proofs.Calls.{read-refused, read-lost, read-data}
 use Rattle.store.proofs.Located.{inside, data-refused, list-refused}
-use Rattle.store.proofs.Strides.{read-size}
 use Rattle.store.proofs.reading.read.Statement.{statement}
 use Rattle.store.proofs.reading.read.Tie as tie
 
@@ -23,12 +22,12 @@ site c = located _ _ _ _ _ (sym (c .before .before .before .locate .ensures) ∙
 fits : (c : tie.Else1) → length (start (c .before .before) .args .buffer .now) ≡ words (c .before .before .before .shape .given .0 .0)
 fits c = omega (arith, c .if1 .left, c .before .words .ensures)
 
--- from where the rows are gathered, and from where the copy is mended
+-- from where the rows are gathered, and from where the copy is decided
 abbrev gathers : tie.After-gather → tie.Else1
 gathers c = c .before .before .before
 
-abbrev mended : tie.After-mend-copy → tie.After-gather
-mended c = c .before .before
+abbrev decided : tie.After-decide → tie.After-gather
+decided c = c .before .before
 
 locate-requires : tie.Need-locate-requires
 locate-requires c κs = search needs
@@ -54,24 +53,18 @@ cast-gather c = search needs
 gather-requires : tie.Need-gather-requires
 gather-requires c κs = inside _ _ _ (site (c .before .before .before .before))
 
-copied : (c : tie.After-gather) → length (c .gather .last .1 .1 .1 .1 .0) ≡ 72
-copied c = rw (c .gather .ensures) (read-size _ (gathers c .before .before .before .shape .given .0 .0) _ _)
-
-slice-aggregate-mend-copy : tie.Need-slice-aggregate-mend-copy
-slice-aggregate-mend-copy c = sym (copied (c .before))
-
-mend-copy-requires : tie.Need-mend-copy-requires
-mend-copy-requires c κs = copied (c .before)
+decide-requires : tie.Need-decide-requires
+decide-requires c κs = search needs
 
 enum-told : tie.Need-enum-told
 enum-told c = search needs
 
 returns-2 : tie.Need-returns-2
 returns-2 c =
-    let said = c .before .before .before in
-    let rows = mended said in
+    let said = c .before .before in
+    let rows = decided said in
     let exact = gathers rows in
-    read-lost _ (site (exact .before .before)) _ (rows .gather .ensures) _ (said .mend-copy .ensures .0) _ (fits exact) _ (c .enum-told .given .1)
+    read-lost _ (site (exact .before .before)) _ (rows .gather .ensures) _ (said .decide .ensures .0) _ (fits exact) _ (c .enum-told .given .1)
 
 data-into-requires : tie.Need-data-into-requires
 data-into-requires c κs = search needs
@@ -89,10 +82,10 @@ same-length c = search needs
 returns-4 : tie.Need-returns-4
 returns-4 c =
     let not-lost = c .before .before .before .before .before in
-    let said = not-lost .before .before in
-    let rows = mended said in
+    let said = not-lost .before in
+    let rows = decided said in
     let exact = gathers rows in
-    let mends = said .mend-copy .ensures in
+    let mends = said .decide .ensures in
     read-data _ (site (exact .before .before)) _ (rows .gather .ensures) _ (mends .0) _ (fits exact) (not-lost .match2 .keys2) _ _ (mends .1)
     (c .before .before .data-into .ensures)
 
@@ -107,8 +100,7 @@ read-spec =
     returns
     cast-gather
     gather-requires
-    slice-aggregate-mend-copy
-    mend-copy-requires
+    decide-requires
     enum-told
     returns-2
     data-into-requires
