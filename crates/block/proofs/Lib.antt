@@ -11,3 +11,4 @@ pub mod Encoding
 pub mod ValidBlocks
 pub mod ByWords
 pub mod Verdicts
+pub mod Told

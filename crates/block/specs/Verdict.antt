@@ -4,7 +4,7 @@ use Prim.Native.Nat.{ℕ, zero, suc, _+_}
 use mathlib.Core.Bool.{Bool, true, false, _&&_}
 use mathlib.Core.List.{List, [], _∷_}
 use lib.Dec.{leb}
-use lib.ListN.{length, drop}
+use lib.ListN.{length, drop, replicate}
 use Rattle.block.specs.declared.Shape.{Shape}
 use Rattle.block.specs.declared.Verdict.{Verdict}
 use Rattle.block.specs.declared.Verdict.the-variants.{Clean, Mended, Lost}
@@ -21,12 +21,13 @@ verdictCount Clean = 0
 verdictCount (Mended m) = m
 verdictCount (Lost m) = m
 
--- a verdict as words: its number, and its count; where there is no verdict, as many zeros
+-- a verdict as words: its number, and its count
 abbrev pub verdictWords : Verdict → List ℕ
 verdictWords verdict = verdictNumber verdict ∷ verdictCount verdict ∷ []
 
+-- as many zeros, where there is no verdict
 abbrev pub noVerdict : List ℕ
-noVerdict = 0 ∷ 0 ∷ []
+noVerdict = replicate (length (verdictWords Clean)) 0
 
 -- by the lanes lost and the bits changed
 abbrev pub verdict : ℕ → ℕ → Verdict

@@ -12,7 +12,7 @@ use super::tables::*;
 use ground::least;
 
 // The data words in the listed rows, in order, and zero elsewhere.
-fn place(rows: &[u8], list: &[u32]) -> [u32; 72]
+fn spread(rows: &[u8], list: &[u32]) -> [u32; 72]
     requires { ⌜ Listed 72 (now rows) × Rising (now rows) ⌝ }
     ensures { λ r. ⌜ r ≡ stores (replicate 72 0) (λ k. getD (now (rows .entry)) k 0 - 1) (λ k. getD (now (list .entry)) k 0) (length (now (rows .entry))) ⌝ }
 {
@@ -27,12 +27,12 @@ fn place(rows: &[u8], list: &[u32]) -> [u32; 72]
     block
 }
 
-fn place_data(shape: Shape, list: &[u32]) -> [u32; 72]
+fn spread_data(shape: Shape, list: &[u32]) -> [u32; 72]
     ensures { λ r. ⌜ r ≡ dataBlock shape (now (list .entry)) ⌝ }
 {
     match shape {
-        Shape::One => place(&DATA_ONE, list),
-        Shape::Two => place(&DATA_TWO, list),
+        Shape::One => spread(&DATA_ONE, list),
+        Shape::Two => spread(&DATA_TWO, list),
     }
 }
 
@@ -66,7 +66,7 @@ fn set_checks(block: &mut [u32; 72], digits: &[u32; 7])
 pub fn encode(shape: Shape, list: &[u32]) -> [u32; 72]
     ensures { λ r. ⌜ r ≡ validBlock shape (now (list .entry)) ⌝ }
 {
-    let mut block = place_data(shape, list);
+    let mut block = spread_data(shape, list);
     let sums = lane_sums(shape, &block);
     let digits = sums.digits;
     let last = sums.parity ^ xor_all(&digits);

@@ -23,40 +23,40 @@ use Rattle.lane.proofs.Rows.{power-apart, split-below}
 use Rattle.block.specs.Block.{Fitting}
 use Rattle.demands.specs.Steps.{flipped}
 
-module _ (at place : ℕ) (image : List ℕ) where
+module _ (at nth : ℕ) (image : List ℕ) where
   -- the word at the index, with the bit changed
   abbrev changed : ℕ
-  changed = bitXor (getD image at 0) (2 ^ place)
+  changed = bitXor (getD image at 0) (2 ^ nth)
 
-  pub length-flipped : length (flipped at place image) ≡ length image
+  pub length-flipped : length (flipped at nth image) ≡ length image
   unfolding flipped
-  length-flipped = go (ltb place 32)
+  length-flipped = go (ltb nth 32)
     where
       go : (t : Bool) → length (cond t (set image at changed) image) ≡ length image
       go true = length-set image at changed
       go false = refl
 
-  pub flipped-words : Fitting image → Fitting (flipped at place image)
+  pub flipped-words : Fitting image → Fitting (flipped at nth image)
   unfolding flipped stores
-  flipped-words fit = go (ltb place 32) refl
+  flipped-words fit = go (ltb nth 32) refl
     where
-      go : (t : Bool) → ltb place 32 ≡ t → Fitting (cond t (set image at changed) image)
+      go : (t : Bool) → ltb nth 32 ≡ t → Fitting (cond t (set image at changed) image)
       go true e =
           stores-all (λ w. w < 2 ^ 32) image (λ k. at) (λ k. changed) 1 fit
-          (λ k h. xor-lt 32 (getD image at 0) (2 ^ place) (fit at) (pow-lt {i = place} {j = 32} (ltb-true place 32 e)))
+          (λ k h. xor-lt 32 (getD image at 0) (2 ^ nth) (fit at) (pow-lt {i = nth} {j = 32} (ltb-true nth 32 e)))
       go false e = fit
 
   -- every other bit is as it was
-  pub other-bit : (i j : ℕ) → (i ≡ at → j ≡ place → ⊥) → bit j (getD (flipped at place image) i 0) ≡ bit j (getD image i 0)
+  pub other-bit : (i j : ℕ) → (i ≡ at → j ≡ nth → ⊥) → bit j (getD (flipped at nth image) i 0) ≡ bit j (getD image i 0)
   unfolding flipped
-  other-bit i j ne = go (ltb place 32)
+  other-bit i j ne = go (ltb nth 32)
     where
       same : i ≡ at → bit j (getD (set image at changed) i 0) ≡ bit j (getD image i 0)
       same e =
           ⊎-elim
           (λ h.
           ap (λ (k : ℕ). bit j (getD (set image at changed) k 0)) e ∙ ap (bit j) (getD-set-same image at changed 0 h)
-          ∙ bit-xor j (getD image at 0) (2 ^ place) ∙ ap (λ (b : Bool). bit j (getD image at 0) ⊕ b) (power-apart j place (ne e))
+          ∙ bit-xor j (getD image at 0) (2 ^ nth) ∙ ap (λ (b : Bool). bit j (getD image at 0) ⊕ b) (power-apart j nth (ne e))
           ∙ ⊕-zero (bit j (getD image at 0)) ∙ ap (λ (k : ℕ). bit j (getD image k 0)) (sym e))
           (λ h. ap (λ (l : List ℕ). bit j (getD l i 0)) (set-out image at changed h))
           (split-below at (length image))

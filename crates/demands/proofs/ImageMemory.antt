@@ -101,31 +101,31 @@ module _ (len : ℕ) (layout : Layout) (fits : imageRefusal len layout ≡ 0) wh
 
   -- ---- a flip
 
-  module _ (at place : ℕ) (image : List ℕ) (u : ℕ × ℕ) where
+  module _ (at nth : ℕ) (image : List ℕ) (u : ℕ × ℕ) where
     -- a row of the lane is as it was, unless the flip is in that lane and that row
-    row-kept : (k : ℕ) → k < rows shape → (u .0 ≡ blockAt layout at → k ≡ rowAt layout at → u .1 ≡ place → ⊥)
-        → lane (u .1) (gathered layout (u .0) (flipped at place image)) (suc k) ≡ lane (u .1) (gathered layout (u .0) image) (suc k)
+    row-kept : (k : ℕ) → k < rows shape → (u .0 ≡ blockAt layout at → k ≡ rowAt layout at → u .1 ≡ nth → ⊥)
+        → lane (u .1) (gathered layout (u .0) (flipped at nth image)) (suc k) ≡ lane (u .1) (gathered layout (u .0) image) (suc k)
     row-kept k h ne =
-        ap (bit (u .1)) (gathered-row layout (u .0) (flipped at place image) k h)
-        ∙ other-bit at place image (index layout (u .0) (suc k)) (u .1)
+        ap (bit (u .1)) (gathered-row layout (u .0) (flipped at nth image) k h)
+        ∙ other-bit at nth image (index layout (u .0) (suc k)) (u .1)
         (λ e f. let q = only-at layout first at (u .0) k h e in ne (q .0) (q .1) f)
         ∙ sym (ap (bit (u .1)) (gathered-row layout (u .0) image k h))
 
-    pub flip-elsewhere : ((blockAt layout at, place) ≡ u → ⊥) → (list : List ℕ) (k : ℕ) → OffBy k image u list → OffBy k (flipped at place image) u list
+    pub flip-elsewhere : ((blockAt layout at, nth) ≡ u → ⊥) → (list : List ℕ) (k : ℕ) → OffBy k image u list → OffBy k (flipped at nth image) u list
     flip-elsewhere ne list k off l =
         omega (
           arith,
           off l,
           count-same (rows shape)
-              (diff (lane (u .1) (gathered layout (u .0) (flipped at place image))) (lane (u .1) (validBlock shape list)))
+              (diff (lane (u .1) (gathered layout (u .0) (flipped at nth image))) (lane (u .1) (validBlock shape list)))
               (diff (lane (u .1) (gathered layout (u .0) image)) (lane (u .1) (validBlock shape list)))
               (λ j h.
               ap (λ (b : Bool). b ⊕ lane (u .1) (validBlock shape list) (suc j)) (row-kept j h (λ e r f. ne (λ i. (sym e i, sym f i))))),
         )
 
-    pub flip-there : (list : List ℕ) → OffBy 0 image u list → OffBy 1 (flipped at place image) u list
+    pub flip-there : (list : List ℕ) → OffBy 0 image u list → OffBy 1 (flipped at nth image) u list
     flip-there list off l =
-        count-single (rows shape) (diff (lane (u .1) (gathered layout (u .0) (flipped at place image))) (lane (u .1) (validBlock shape list))) (rowAt layout at)
+        count-single (rows shape) (diff (lane (u .1) (gathered layout (u .0) (flipped at nth image))) (lane (u .1) (validBlock shape list))) (rowAt layout at)
         (λ j h ne.
         ap (λ (b : Bool). b ⊕ lane (u .1) (validBlock shape list) (suc j)) (row-kept j h (λ e r f. ne r))
         ∙ empty (rows shape) (diff (lane (u .1) (gathered layout (u .0) image)) (lane (u .1) (validBlock shape list))) (omega (arith, off l)) j h)

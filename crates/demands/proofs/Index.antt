@@ -26,7 +26,7 @@ module _ (layout : Layout) where
         let s = layout .s in
         let rows = rowsOf layout in
         let row : suc (rowAt at) - 1 ≡ rowAt at = omega arith in
-        ap₂ (λ (group place : ℕ). group * rows * s + (suc (rowAt at) - 1) * s + place)
+        ap₂ (λ (group within : ℕ). group * rows * s + (suc (rowAt at) - 1) * s + within)
         (digits-div (at / s / rows) (mod-lt at first))
         (digits-mod (at / s / rows) (mod-lt at first))
         ∙ ap (λ (k : ℕ). at / s / rows * rows * s + k * s + at % s) row

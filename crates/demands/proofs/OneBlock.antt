@@ -1,62 +1,21 @@
 -- Demand 2 of one block: what it is mended to, and what the verdict says of it. Assumes nothing.
-use Prim.Native.Nat.{ℕ, zero, suc, _≤_}
-use mathlib.Core.Path.{_≡_, refl, sym, subst, _∙_}
+use Prim.Native.Nat.{ℕ, _≤_}
+use mathlib.Core.Path.{_≡_, sym, subst, _∙_}
 use mathlib.Core.List.{List}
 use native.Mathlib.Omega.{arith}
 use lib.ListN.{length}
 use Rattle.ground.proofs.Totals.{total-same, total-zero, total-few}
-use Rattle.lane.specs.Decision.{decide, lost?}
-use Rattle.lane.proofs.Bits.{pick-one}
 use Rattle.lane.proofs.Mended.{valid-near}
 use Rattle.block.specs.declared.Shape.{Shape}
 use Rattle.block.specs.Shape.{before, rows}
 use Rattle.block.specs.Words.{lane}
 use Rattle.block.specs.Block.{ValidBlock, lanesLost, bitsChanged, mendedBlock, Fitting, Near, SameRows}
-use Rattle.block.specs.Verdict.{verdictNumber, verdictCount, verdict, verdictOf}
+use Rattle.block.specs.Verdict.{verdictNumber, verdictOf}
 use Rattle.block.proofs.Blocks.{kept-valid, kept-near, near-none, near-rows, mended-fits}
 use Rattle.store.specs.declared.Answer.the-variants.{Found}
-use Rattle.store.proofs.Verdicts.{clean-left}
+use Rattle.block.proofs.Told.{three-lost, lost-three, kept-count, clean-none, none-clean, counts, few-lost, clean-left}
 use Rattle.demands.specs.Demand2.{Meant, Mends}
 use Rattle.demands.proofs.SameBlocks.{same-apart}
-
--- ---- the verdict by the numbers of lanes lost and bits changed
-
-pub lost-some : (lost changed : ℕ) → verdictNumber (verdict lost changed) ≡ 3 → lost ≡ 0 → ⊥
-lost-some zero zero e z = omega arith
-lost-some zero (suc changed) e z = omega arith
-lost-some (suc lost) changed e z = omega arith
-
-some-lost : (lost changed : ℕ) → (lost ≡ 0 → ⊥) → (verdictNumber (verdict lost changed) ≡ 3) × (verdictCount (verdict lost changed) ≡ lost)
-some-lost zero changed ne = absurd (ne refl)
-some-lost (suc lost) changed ne = (refl, refl)
-
-none-lost : (lost changed : ℕ) → (verdictNumber (verdict lost changed) ≡ 3 → ⊥) → (lost ≡ 0) × (verdictCount (verdict lost changed) ≡ changed)
-none-lost zero zero ne = (refl, refl)
-none-lost zero (suc changed) ne = (refl, refl)
-none-lost (suc lost) changed ne = absurd (ne refl)
-
-clean-none : (lost changed : ℕ) → verdictNumber (verdict lost changed) ≡ 1 → (lost ≡ 0) × (changed ≡ 0)
-clean-none zero zero e = (refl, refl)
-clean-none zero (suc changed) e = absurd (omega arith)
-clean-none (suc lost) changed e = absurd (omega arith)
-
-none-clean : (lost changed : ℕ) → lost ≡ 0 → changed ≡ 0 → verdictNumber (verdict lost changed) ≡ 1
-none-clean zero zero l c = refl
-none-clean zero (suc changed) l c = absurd (omega arith)
-none-clean (suc lost) changed l c = absurd (omega arith)
-
--- a verdict that is not clean counts something
-counts : (lost changed : ℕ) → lost ≤ 32 → (lost ≡ 0 → changed ≤ 32) → (verdictNumber (verdict lost changed) ≡ 1 → ⊥)
-    → (1 ≤ verdictCount (verdict lost changed)) × (verdictCount (verdict lost changed) ≤ 32)
-counts zero zero l c ne = absurd (ne refl)
-counts zero (suc changed) l c ne = (omega arith, c refl)
-counts (suc lost) changed l c ne = (omega arith, l)
-
--- ---- a block found
-
-few-lost : (shape : Shape) (block : List ℕ) → lanesLost shape block ≤ 32
-unfolding lanesLost
-few-lost shape block = total-few 32 _ (λ i h. pick-one (lost? (decide (before shape) (lane i block))))
 
 few-changed : (shape : Shape) (old new : List ℕ) → Near shape old new → bitsChanged shape old new ≤ 32
 unfolding bitsChanged
@@ -97,14 +56,14 @@ module _ (shape : Shape) (found : List ℕ) (fits : Fitting found) (long : rows 
   unfolding verdictOf
   mends =
       record {
-        mended = λ ne. left-meant (none-lost lost changed ne .0);
-        count = λ ne. none-lost lost changed ne .1;
+        mended = λ ne. left-meant (kept-count lost changed ne .0);
+        count = λ ne. kept-count lost changed ne .1;
         only = left-only;
         lost = (
-          λ says other m. lost-some lost changed says (near-none shape found long other (m .valid) (m .near)),
-          λ none. some-lost lost changed (λ e. none left (left-meant e)) .0,
+          λ says other m. three-lost lost changed says (near-none shape found long other (m .valid) (m .near)),
+          λ none. lost-three lost changed (λ e. none left (left-meant e)) .0,
         );
-        lanes = λ says. some-lost lost changed (lost-some lost changed says) .1;
+        lanes = λ says. lost-three lost changed (three-lost lost changed says) .1;
         range = counts lost changed (few-lost shape found) (λ e. few-changed shape found left (left-meant e .near));
         clean = (
           λ says. let z = clean-none lost changed says in clean-valid (z .0) (z .1),
@@ -116,7 +75,7 @@ module _ (shape : Shape) (found : List ℕ) (fits : Fitting found) (long : rows 
   -- what the verdict says of the block that is left
   pub lost-same : verdictNumber (verdictOf shape found) ≡ 3 → lost ≡ 0 → ⊥
   unfolding verdictOf
-  lost-same says = lost-some lost changed says
+  lost-same says = three-lost lost changed says
 
   pub clean-numbers : verdictNumber (verdictOf shape found) ≡ 1 → (lost ≡ 0) × (changed ≡ 0)
   unfolding verdictOf
@@ -124,4 +83,4 @@ module _ (shape : Shape) (found : List ℕ) (fits : Fitting found) (long : rows 
 
   pub kept-numbers : (verdictNumber (verdictOf shape found) ≡ 3 → ⊥) → lost ≡ 0
   unfolding verdictOf
-  kept-numbers ne = none-lost lost changed ne .0
+  kept-numbers ne = kept-count lost changed ne .0

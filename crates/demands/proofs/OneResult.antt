@@ -21,8 +21,8 @@ use Rattle.store.specs.Write.{Writes}
 use Rattle.store.specs.Read.{Reads}
 use Rattle.store.specs.Visit.{Visits, VisitsAccepted}
 use Rattle.rota.specs.declared.Rota.{Rota}
-use Rattle.rota.specs.declared.Asked.{Asked as RotaAsked}
-use Rattle.rota.specs.declared.Turned.{Turned as RotaTurned}
+use Rattle.rota.specs.declared.RotaAsked.{RotaAsked}
+use Rattle.rota.specs.declared.RotaTurned.{RotaTurned}
 use Rattle.rota.specs.Record.{fresh, rotaAsked, rotaTurned}
 use Rattle.patrol.specs.declared.Record.{Record}
 use Rattle.patrol.specs.declared.Formatted.{Formatted}

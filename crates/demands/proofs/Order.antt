@@ -123,7 +123,7 @@ module _ (image : List ℕ) (layout : Layout) (fits : imageRefusal (length image
       let found = round-complete (blocks layout) some-blocks (partsOf image layout before) (allParts during state) long block inside in
       let at = whole-step rotaTurn turn refl during state (found .0) (found .1) (found .2) in (
         at .front,
-        at .back,
+        at .tail,
         at .split,
         names (before ++ at .front) block (rw (parts-append before (at .front) (fresh image layout), at .front-is) (found .3)),
       )

@@ -11,7 +11,7 @@ use Rattle.rota.specs.Touches.{Touch, write as writes, read as reads, visit as 
 use Rattle.rota.proofs.Runs.{turns-append}
 use Rattle.demands.specs.Steps.{Step, write, read, visit, ask, turn, flip, State, stepAfter, after, answers, tick, turns, meant, lastWritten}
 use Rattle.demands.proofs.Appended.{written-append}
-use Rattle.demands.proofs.Splits.{split-joined, split-none, split-one}
+use Rattle.demands.proofs.Splits.{split-append, split-none, split-one}
 
 -- a touch of the memory: data is a list of words, and a flip has an index and a bit
 abbrev pub MemoryTouch : Type 0
@@ -113,13 +113,13 @@ module _ (block : ℕ) where
 pub record PartOf (steps : List Step) (state : State) (before : List Part) (part : Part) (rest : List Part) : Type 0 where
   pub front : List Step
   pub step : Step
-  pub back : List Step
+  pub tail : List Step
   pub early : List Part
   pub late : List Part
-  pub split : steps ≡ front ++ step ∷ back
+  pub split : steps ≡ front ++ step ∷ tail
   pub is-part : parts step (after front state) ≡ early ++ part ∷ late
   pub front-is : before ≡ allParts front state ++ early
-  pub back-is : rest ≡ late ++ allParts back (stepAfter step (after front state))
+  pub tail-is : rest ≡ late ++ allParts tail (stepAfter step (after front state))
 
 pub part-of : (steps : List Step) (state : State) (before : List Part) (part : Part) (rest : List Part)
     → allParts steps state ≡ before ++ part ∷ rest → PartOf steps state before part rest
@@ -131,20 +131,20 @@ part-of (step ∷ steps) state before part rest e =
     record {
       front = [];
       step = step;
-      back = steps;
+      tail = steps;
       early = before;
       late = here .0;
       split = refl;
       is-part = here .1;
       front-is = refl;
-      back-is = here .2;
+      tail-is = here .2;
     })
     (λ there.
     let r = part-of steps (stepAfter step state) (there .0) part rest (there .2) in
     record {
       front = step ∷ r .front;
       step = r .step;
-      back = r .back;
+      tail = r .tail;
       early = r .early;
       late = r .late;
       split = ap (λ (l : List Step). step ∷ l) (r .split);
@@ -152,9 +152,9 @@ part-of (step ∷ steps) state before part rest e =
       front-is =
           there .1 ∙ ap (λ (l : List Part). parts step state ++ l) (r .front-is)
           ∙ sym (append-assoc (parts step state) (allParts (r .front) (stepAfter step state)) (r .early));
-      back-is = r .back-is;
+      tail-is = r .tail-is;
     })
-    (split-joined (parts step state) (allParts steps (stepAfter step state)) before part rest e)
+    (split-append (parts step state) (allParts steps (stepAfter step state)) before part rest e)
 
 -- ---- a part that makes a step by itself
 
@@ -211,10 +211,10 @@ module _ (part : Part) (step : Step) (makes : madeBy part ≡ step ∷ []) where
   -- so a list of steps is split at that step
   pub record Whole (steps : List Step) (state : State) (before rest : List Part) : Type 0 where
     pub front : List Step
-    pub back : List Step
-    pub split : steps ≡ front ++ step ∷ back
+    pub tail : List Step
+    pub split : steps ≡ front ++ step ∷ tail
     pub front-is : allParts front state ≡ before
-    pub back-is : allParts back (stepAfter step (after front state)) ≡ rest
+    pub tail-is : allParts tail (stepAfter step (after front state)) ≡ rest
 
   pub whole-step : (steps : List Step) (state : State) (before rest : List Part) → allParts steps state ≡ before ++ part ∷ rest
       → Whole steps state before rest
@@ -223,10 +223,10 @@ module _ (part : Part) (step : Step) (makes : madeBy part ≡ step ∷ []) where
       let q = alone (p .step) (after (p .front) state) (p .early) (p .late) (p .is-part) in
       record {
         front = p .front;
-        back = p .back;
-        split = p .split ∙ ap (λ (x : Step). p .front ++ x ∷ p .back) (q .0);
+        tail = p .tail;
+        split = p .split ∙ ap (λ (x : Step). p .front ++ x ∷ p .tail) (q .0);
         front-is = sym (p .front-is ∙ ap (λ (l : List Part). allParts (p .front) state ++ l) (q .1) ∙ append-nil (allParts (p .front) state));
-        back-is =
-            ap (λ (x : Step). allParts (p .back) (stepAfter x (after (p .front) state))) (sym (q .0))
-            ∙ sym (p .back-is ∙ ap (λ (l : List Part). l ++ allParts (p .back) (stepAfter (p .step) (after (p .front) state))) (q .2));
+        tail-is =
+            ap (λ (x : Step). allParts (p .tail) (stepAfter x (after (p .front) state))) (sym (q .0))
+            ∙ sym (p .tail-is ∙ ap (λ (l : List Part). l ++ allParts (p .tail) (stepAfter (p .step) (after (p .front) state))) (q .2));
       }

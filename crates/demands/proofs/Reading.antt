@@ -22,7 +22,7 @@ use Rattle.rota.proofs.Patrol.{read-right}
 use Rattle.demands.specs.Steps.{Step, write, read, fresh, lastWritten}
 use Rattle.demands.specs.Demand3.{WordsWritten, store, OneLayout, FlipsSpaced, ReadsRight}
 use Rattle.demands.proofs.Numbers.{read-number}
-use Rattle.demands.proofs.OneBlock.{lost-some}
+use Rattle.block.proofs.Told.{three-lost}
 use Rattle.store.proofs.FreshBlocks.{zeros-fit}
 use Rattle.demands.proofs.Lasting.{store-size}
 use Rattle.demands.proofs.ImageMemory.{found}
@@ -39,7 +39,7 @@ module _ (image : List ℕ) (layout : Layout) (block : ℕ) (buffer : List ℕ)
     (kept : lanesLost (shapeOf layout) (gathered layout block image) ≡ 0) where
   says-kept : answerVerdict (readAnswer image layout block buffer) ≡ 3 → ⊥
   unfolding readAnswer verdictOf
-  says-kept e = lost-some (lanesLost (shapeOf layout) (gathered layout block image)) _ (rw passed at e) kept
+  says-kept e = three-lost (lanesLost (shapeOf layout) (gathered layout block image)) _ (rw passed at e) kept
 
   leaves-data : readBuffer image layout block buffer ≡ dataOf (shapeOf layout) (mendedBlock (shapeOf layout) (gathered layout block image))
   unfolding readBuffer mendedData
@@ -49,13 +49,13 @@ module _ (image : List ℕ) (layout : Layout) (block : ℕ) (buffer : List ℕ)
 
 layout-front : (image : List ℕ) (layout : Layout) (before rest : List Step) (step : Step) → OneLayout image layout (before ++ step ∷ rest)
     → LayoutFrom layout (fresh image layout) before
-layout-front image layout before rest step one front back next e =
-    one front (back ++ step ∷ rest) next (ap (λ (l : List Step). l ++ step ∷ rest) e ∙ append-assoc front (next ∷ back) (step ∷ rest))
+layout-front image layout before rest step one front tail next e =
+    one front (tail ++ step ∷ rest) next (ap (λ (l : List Step). l ++ step ∷ rest) e ∙ append-assoc front (next ∷ tail) (step ∷ rest))
 
 words-front : (before rest : List Step) (step : Step) → WordsWritten (before ++ step ∷ rest) → WordsWritten before
-words-front before rest step words front back layout block list e =
-    words front (back ++ step ∷ rest) layout block list
-    (ap (λ (l : List Step). l ++ step ∷ rest) e ∙ append-assoc front (write layout block list ∷ back) (step ∷ rest))
+words-front before rest step words front tail layout block list e =
+    words front (tail ++ step ∷ rest) layout block list
+    (ap (λ (l : List Step). l ++ step ∷ rest) e ∙ append-assoc front (write layout block list ∷ tail) (step ∷ rest))
 
 -- ---- a read with the store's layout
 

@@ -29,11 +29,11 @@ module _ (image : List ℕ) (layout : Layout) (fits : imageRefusal (length image
       let later = whole-step (other (flips h)) (flip (h .0) (h .1)) refl steps start (pre ++ other (flips f) ∷ mid) post e in
       let earlier = whole-step (other (flips f)) (flip (f .0) (f .1)) refl (later .front) start pre mid (later .front-is) in
       let between = stepAfter (flip (f .0) (f .1)) (after (earlier .front) start) in
-      let whole : steps ≡ earlier .front ++ flip (f .0) (h .1) ∷ earlier .back ++ flip (h .0) (h .1) ∷ later .back =
+      let whole : steps ≡ earlier .front ++ flip (f .0) (h .1) ∷ earlier .tail ++ flip (h .0) (h .1) ∷ later .tail =
       later .split
-      ∙ ap (λ (l : List Step). l ++ flip (h .0) (h .1) ∷ later .back)
-      (earlier .split ∙ ap (λ (u : ℕ × ℕ). earlier .front ++ flip (f .0) (u .1) ∷ earlier .back) same) in
-      rw (← earlier .back-is, parts-turns (earlier .back) between)
-      (spaced (earlier .front) (earlier .back) (later .back) (f .0) (h .0) (h .1) (blockAt layout (h .0)) whole
+      ∙ ap (λ (l : List Step). l ++ flip (h .0) (h .1) ∷ later .tail)
+      (earlier .split ∙ ap (λ (u : ℕ × ℕ). earlier .front ++ flip (f .0) (u .1) ∷ earlier .tail) same) in
+      rw (← earlier .tail-is, parts-turns (earlier .tail) between)
+      (spaced (earlier .front) (earlier .tail) (later .tail) (f .0) (h .0) (h .1) (blockAt layout (h .0)) whole
       (subst (λ (block : ℕ). RowOf layout block (f .0)) (ap (λ (u : ℕ × ℕ). u .0) same) (row-of (f .0)))
       (row-of (h .0)))

@@ -13,16 +13,16 @@ module _ {A : Type 0} where
   abbrev pub InSecond : List A → List A → List A → A → List A → Type 0
   InSecond l k before at rest = (more : List A) × (before ≡ l ++ more) × (k ≡ more ++ at ∷ rest)
 
-  pub split-joined : (l k before : List A) (at : A) (rest : List A) → l ++ k ≡ before ++ at ∷ rest
+  pub split-append : (l k before : List A) (at : A) (rest : List A) → l ++ k ≡ before ++ at ∷ rest
       → InFirst l k before at rest ⊎ InSecond l k before at rest
-  split-joined [] k before at rest e = inr (before, refl, e)
-  split-joined (x ∷ l) k [] at rest e = inl (l, cc, cc)
-  split-joined (x ∷ l) k (y ∷ before) at rest e =
+  split-append [] k before at rest e = inr (before, refl, e)
+  split-append (x ∷ l) k [] at rest e = inl (l, cc, cc)
+  split-append (x ∷ l) k (y ∷ before) at rest e =
       let same : x ≡ y = cc in
       ⊎-elim
       (λ r. inl (r .0, (λ i. same i ∷ r .1 i), r .2))
       (λ r. inr (r .0, (λ i. sym same i ∷ r .1 i), r .2))
-      (split-joined l k before at rest (cc))
+      (split-append l k before at rest (cc))
 
   -- an empty list is not split
   pub split-none : (before : List A) (at : A) (rest : List A) → [] ≡ before ++ at ∷ rest → ⊥

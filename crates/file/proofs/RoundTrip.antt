@@ -160,10 +160,10 @@ length-words : (bytes : List ℕ) → length (wordsIn bytes) ≡ wordCount (leng
 unfolding wordsIn
 length-words bytes = length-listOf (wordCount (length bytes)) (wordIn bytes)
 
-back : (bytes : List ℕ) → Bytes bytes → Accepted bytes → Headed bytes
+same-bytes : (bytes : List ℕ) → Bytes bytes → Accepted bytes → Headed bytes
     → fileOf (layoutIn bytes) (wordsIn bytes) ≡ bytes
 unfolding fileOf wordsIn
-back bytes small ok (headed a b c d e f g h i rest) =
+same-bytes bytes small ok (headed a b c d e f g h i rest) =
     let count = wordCount (length bytes) in
     let size : length rest ≡ 4 * count = omega (arith, ok .body) in
     let field : 4 + 4 * length (wordsIn bytes) ≡ wordOf b c d e = omega (arith, length-words bytes, ok .frame .field) in
@@ -177,4 +177,4 @@ back bytes small ok (headed a b c d e f g h i rest) =
 -- the file of what was read from a file that is accepted is that file
 pub file-back : (bytes : List ℕ) → Bytes bytes → fileRefusal bytes ≡ 0
     → fileOf (layoutIn bytes) (wordsIn bytes) ≡ bytes
-file-back bytes small e = let ok = accepted bytes e in back bytes small ok (head-of bytes (ok .frame .least))
+file-back bytes small e = let ok = accepted bytes e in same-bytes bytes small ok (head-of bytes (ok .frame .least))

@@ -8,45 +8,44 @@ use Rattle.store.specs.Fresh.{freshAfter}
 use Rattle.store.specs.Write.{writeAnswer, writeAfter}
 use Rattle.store.specs.Read.{readAnswer, readBuffer}
 use Rattle.store.specs.Visit.{visitAnswer, visitAfter}
-use Rattle.rota.specs.Numbers.{placeNumber}
+use Rattle.rota.specs.Numbers.{placeNumber, placeWords}
 use Rattle.patrol.specs.Format.{formatted}
 use Rattle.patrol.specs.Ask.{asked}
 use Rattle.patrol.specs.Turn.{turned, turnAfter}
 use Rattle.patrol.specs.Numbers.{reportNumber, reportWords}
-use Rattle.words.specs.Answers.{placeWords}
 use Rattle.words.specs.Records.{recordOf, recordWords}
 
 -- write
-pub record Wrote (image : List ℕ) (layout : Layout) (block : ℕ) (list : List ℕ) (number : ℕ) (after : List ℕ) : Type 0 where
+pub record WriteCall (image : List ℕ) (layout : Layout) (block : ℕ) (list : List ℕ) (number : ℕ) (after : List ℕ) : Type 0 where
   pub answers : number ≡ answerNumber (writeAnswer image layout block list)
   pub leaves : after ≡ writeAfter image layout block list
 
 -- read
-pub record Gave (image : List ℕ) (layout : Layout) (block : ℕ) (buffer : List ℕ) (number : ℕ) (after verdict : List ℕ) : Type 0 where
+pub record ReadCall (image : List ℕ) (layout : Layout) (block : ℕ) (buffer : List ℕ) (number : ℕ) (after verdict : List ℕ) : Type 0 where
   pub answers : number ≡ answerNumber (readAnswer image layout block buffer)
   pub leaves : after ≡ readBuffer image layout block buffer
   pub says : verdict ≡ answerWords (readAnswer image layout block buffer)
 
 -- visit
-pub record Saw (image : List ℕ) (layout : Layout) (block number : ℕ) (after verdict : List ℕ) : Type 0 where
+pub record VisitCall (image : List ℕ) (layout : Layout) (block number : ℕ) (after verdict : List ℕ) : Type 0 where
   pub answers : number ≡ answerNumber (visitAnswer image layout block)
   pub leaves : after ≡ visitAfter image layout block
   pub says : verdict ≡ answerWords (visitAnswer image layout block)
 
 -- format
-pub record Made (image : List ℕ) (layout : Layout) (number : ℕ) (after words : List ℕ) : Type 0 where
+pub record FormatCall (image : List ℕ) (layout : Layout) (number : ℕ) (after words : List ℕ) : Type 0 where
   pub answers : number ≡ formatted image layout .number
   pub leaves : after ≡ freshAfter image layout
   pub back : words ≡ recordWords (formatted image layout .back)
 
 -- ask: the record that was lent, and what it becomes
-pub record Asked (given : List ℕ) (block number : ℕ) (words place : List ℕ) : Type 0 where
+pub record AskCall (given : List ℕ) (block number : ℕ) (words place : List ℕ) : Type 0 where
   pub answers : number ≡ placeNumber (asked (recordOf given) block .place)
   pub back : words ≡ recordWords (asked (recordOf given) block .back)
   pub says : place ≡ placeWords (asked (recordOf given) block .place)
 
 -- turn
-pub record Turned (given image : List ℕ) (number : ℕ) (words after report : List ℕ) : Type 0 where
+pub record TurnCall (given image : List ℕ) (number : ℕ) (words after report : List ℕ) : Type 0 where
   pub answers : number ≡ reportNumber (turned (recordOf given) image .report)
   pub leaves : after ≡ turnAfter (recordOf given) image
   pub back : words ≡ recordWords (turned (recordOf given) image .back)

@@ -1,6 +1,6 @@
 // Format, ask and turn for C.
 ghost use Rattle.layout.specs.Layout.{layoutOf};
-ghost use Rattle.foldgrebe.specs.Calls.{Made, Asked, Turned};
+ghost use Rattle.foldgrebe.specs.Calls.{FormatCall, AskCall, TurnCall};
 use layout::Layout;
 use words::RECORD_WORDS;
 use words::REPORT_WORDS;
@@ -11,41 +11,41 @@ pub extern "C" fn foldgrebe_format(
     shape: u32,
     s: u32,
     g: u32,
-    back: &mut [u32; RECORD_WORDS],
+    record: &mut [u32; RECORD_WORDS],
 ) -> u32
-    ensures { λ r. ⌜ Made (now (image .entry)) (layoutOf shape s g) r (now (image .exit)) (now (back .exit)) ⌝ }
+    ensures { λ r. ⌜ FormatCall (now (image .entry)) (layoutOf shape s g) r (now (image .exit)) (now («record» .exit)) ⌝ }
 {
     let answer = patrol::format(image, Layout { shape, s, g });
-    *back = words::record_words(answer.back);
+    *record = words::record_words(answer.back);
     answer.number
 }
 
 #[no_mangle]
 pub extern "C" fn foldgrebe_ask(
-    back: &mut [u32; RECORD_WORDS],
+    record: &mut [u32; RECORD_WORDS],
     block: u32,
     place: &mut [u32; 1],
 ) -> u32
-    ensures { λ r. ⌜ Asked (now (back .entry)) block r (now (back .exit)) (now (place .exit)) ⌝ }
+    ensures { λ r. ⌜ AskCall (now («record» .entry)) block r (now («record» .exit)) (now (place .exit)) ⌝ }
 {
-    let answer = words::record_of(*back).ask(block);
+    let answer = words::record_of(*record).ask(block);
     let given = answer.place;
-    *back = words::record_words(answer.back);
+    *record = words::record_words(answer.back);
     *place = words::place_words(given);
     words::place_number(given)
 }
 
 #[no_mangle]
 pub extern "C" fn foldgrebe_turn(
-    back: &mut [u32; RECORD_WORDS],
+    record: &mut [u32; RECORD_WORDS],
     image: &mut [u32],
     report: &mut [u32; REPORT_WORDS],
 ) -> u32
-    ensures { λ r. ⌜ Turned (now (back .entry)) (now (image .entry)) r (now (back .exit)) (now (image .exit)) (now (report .exit)) ⌝ }
+    ensures { λ r. ⌜ TurnCall (now («record» .entry)) (now (image .entry)) r (now («record» .exit)) (now (image .exit)) (now (report .exit)) ⌝ }
 {
-    let answer = words::record_of(*back).turn(image);
+    let answer = words::record_of(*record).turn(image);
     let said = answer.report;
-    *back = words::record_words(answer.back);
+    *record = words::record_words(answer.back);
     *report = words::report_words(said);
     words::report_number(said)
 }

@@ -1,6 +1,6 @@
 // Write, read and visit for C.
 ghost use Rattle.layout.specs.Layout.{layoutOf};
-ghost use Rattle.foldgrebe.specs.Calls.{Wrote, Gave, Saw};
+ghost use Rattle.foldgrebe.specs.Calls.{WriteCall, ReadCall, VisitCall};
 use layout::Layout;
 use words::VERDICT_WORDS;
 
@@ -13,7 +13,7 @@ pub extern "C" fn foldgrebe_write(
     block: u32,
     list: &[u32],
 ) -> u32
-    ensures { λ r. ⌜ Wrote (now (image .entry)) (layoutOf shape s g) block (now (list .entry)) r (now (image .exit)) ⌝ }
+    ensures { λ r. ⌜ WriteCall (now (image .entry)) (layoutOf shape s g) block (now (list .entry)) r (now (image .exit)) ⌝ }
 {
     words::answer_number(store::write(image, Layout { shape, s, g }, block, list))
 }
@@ -28,7 +28,7 @@ pub extern "C" fn foldgrebe_read(
     buffer: &mut [u32],
     verdict: &mut [u32; VERDICT_WORDS],
 ) -> u32
-    ensures { λ r. ⌜ Gave (now (image .entry)) (layoutOf shape s g) block (now (buffer .entry)) r (now (buffer .exit)) (now (verdict .exit)) ⌝ }
+    ensures { λ r. ⌜ ReadCall (now (image .entry)) (layoutOf shape s g) block (now (buffer .entry)) r (now (buffer .exit)) (now (verdict .exit)) ⌝ }
 {
     let answer = store::read(image, Layout { shape, s, g }, block, buffer);
     *verdict = words::answer_words(answer);
@@ -44,7 +44,7 @@ pub extern "C" fn foldgrebe_visit(
     block: u32,
     verdict: &mut [u32; VERDICT_WORDS],
 ) -> u32
-    ensures { λ r. ⌜ Saw (now (image .entry)) (layoutOf shape s g) block r (now (image .exit)) (now (verdict .exit)) ⌝ }
+    ensures { λ r. ⌜ VisitCall (now (image .entry)) (layoutOf shape s g) block r (now (image .exit)) (now (verdict .exit)) ⌝ }
 {
     let answer = store::visit(image, Layout { shape, s, g }, block);
     *verdict = words::answer_words(answer);

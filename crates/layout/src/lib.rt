@@ -1,5 +1,5 @@
 // How an image is laid out: its shape, interleave and groups; what is refused of it; where a block lies.
-mod places;
+mod locating;
 mod refusals;
 
 use block::Shape;

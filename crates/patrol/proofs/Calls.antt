@@ -10,8 +10,8 @@ use Rattle.layout.specs.Refusal.{layoutRefusal, imageRefusal}
 use Rattle.layout.proofs.Ladder.{geometry}
 use Rattle.rota.specs.declared.Rota.{Rota}
 use Rattle.rota.specs.declared.Place.the-variants.{Refused as NoPlace}
-use Rattle.rota.specs.declared.Asked.{Asked as RotaAsked}
-use Rattle.rota.specs.declared.Turned.{Turned as RotaTurned}
+use Rattle.rota.specs.declared.RotaAsked.{RotaAsked}
+use Rattle.rota.specs.declared.RotaTurned.{RotaTurned}
 use Rattle.rota.specs.Record.{fresh}
 use Rattle.rota.proofs.Ranges.{due-inside}
 use Rattle.store.specs.Fresh.{Clears}

@@ -9,8 +9,8 @@ use Rattle.ground.proofs.Choices.{refused-kept}
 use Rattle.layout.specs.declared.Layout.{Layout}
 use Rattle.layout.specs.Layout.{blocks}
 use Rattle.layout.specs.Refusal.{layoutRefusal, imageRefusal}
-use Rattle.rota.specs.declared.Asked.{Asked as RotaAsked}
-use Rattle.rota.specs.declared.Turned.{Turned as RotaTurned}
+use Rattle.rota.specs.declared.RotaAsked.{RotaAsked}
+use Rattle.rota.specs.declared.RotaTurned.{RotaTurned}
 use Rattle.rota.specs.Numbers.{placeNumber}
 use Rattle.rota.specs.Record.{askNumber, turnNumber}
 use Rattle.rota.proofs.Numbers as rotaNumbers

@@ -9,7 +9,7 @@ use Rattle.layout.specs.Layout.{blocks}
 use Rattle.layout.specs.Reason.{layoutRules, imageRules}
 use Rattle.layout.proofs.Ladder.{layout-first, image-first}
 use Rattle.rota.specs.Numbers.{placeNumber}
-use Rattle.rota.specs.Reason.{askRules as rotaAskRules, turnRules as rotaTurnRules}
+use Rattle.rota.specs.Reason.{rotaAskRules, rotaTurnRules}
 use Rattle.rota.proofs.Reasons as rotaReasons
 use Rattle.patrol.specs.declared.Record.{Record}
 use Rattle.patrol.specs.Format.{formatted}

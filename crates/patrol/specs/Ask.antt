@@ -15,7 +15,7 @@ abbrev pub withRota : Record → Rota → Record
 withRota r rota = record { layout = r .layout; rota = rota }
 
 -- the rota's own answer to an ask
-abbrev pub askedNow : Record → ℕ → Rattle.rota.specs.declared.Asked.Asked
+abbrev pub askedNow : Record → ℕ → Rattle.rota.specs.declared.RotaAsked.RotaAsked
 askedNow r block = rotaAsked (blocks (r .layout)) (r .rota) block
 
 -- what ask answers, by the number of the layout's refusal

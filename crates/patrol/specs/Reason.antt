@@ -4,7 +4,7 @@ use mathlib.Core.List.{List, _++_}
 use Rattle.ground.specs.Rules.{Rule}
 use Rattle.layout.specs.Layout.{blocks}
 use Rattle.layout.specs.Reason.{layoutRules, imageRules}
-use Rattle.rota.specs.Reason.{askRules as rotaAskRules, turnRules as rotaTurnRules}
+use Rattle.rota.specs.Reason.{rotaAskRules, rotaTurnRules}
 use Rattle.patrol.specs.declared.Record.{Record}
 
 -- Ask: 1, 2, 3, 5, 6, 8

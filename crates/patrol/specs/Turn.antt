@@ -13,7 +13,7 @@ use Rattle.layout.specs.Layout.{shapeOf, blocks}
 use Rattle.layout.specs.Refusal.{imageRefusal}
 use Rattle.rota.specs.declared.Due.{Due}
 use Rattle.rota.specs.declared.Due.the-variants.{Refused as NoneDue, One as OneDue, Two as TwoDue}
-use Rattle.rota.specs.declared.Turned.{Turned as RotaTurned}
+use Rattle.rota.specs.declared.RotaTurned.{RotaTurned}
 use Rattle.rota.specs.Record.{rotaTurned}
 use Rattle.store.specs.Image.{gathered}
 use Rattle.store.specs.Visit.{visitAfter}

@@ -6,8 +6,7 @@ use Rattle.file.specs.declared.Header.{Header}
 use Rattle.file.specs.Header.{headerOf}
 use Rattle.file.specs.Bytes.{wordCount, wordsInto}
 use Rattle.ground.proofs.Same.{same}
-use Rattle.text.specs.Page.{page, written}
-use Rattle.text.proofs.OneResult.{parted, one-text}
+use Rattle.text.proofs.OneResult.{parted}
 use Rattle.report.specs.Report.{Reports}
 
 pub one-header : (bytes : List ℕ) (a b : Header) → a ≡ headerOf bytes → b ≡ headerOf bytes → a ≡ b
@@ -16,15 +15,8 @@ one-header bytes a b p q = same p q
 pub one-count : (len a b : ℕ) → a ≡ wordCount len → b ≡ wordCount len → a ≡ b
 one-count len a b p q = same p q
 
-pub one-words : (bytes image a b : List ℕ) → a ≡ wordsInto bytes image → b ≡ wordsInto bytes image → a ≡ b
-one-words bytes image a b p q = same p q
-
--- of every line, whatever its text
-pub one-line : (text out a b : List ℕ) (at m n : ℕ)
-    → page a m ≡ written text (page out at)
-    → page b n ≡ written text (page out at)
-    → (a ≡ b) × (m ≡ n)
-one-line = one-text
+pub one-file-words : (bytes image a b : List ℕ) → a ≡ wordsInto bytes image → b ≡ wordsInto bytes image → a ≡ b
+one-file-words bytes image a b p q = same p q
 
 pub one-report : (bytes image out : List ℕ) (m n : ℕ) (after after′ printed printed′ : List ℕ)
     → Reports bytes image out m after printed

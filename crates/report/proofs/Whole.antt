@@ -30,7 +30,7 @@ use Rattle.file.proofs.Ladder.{Accepted, accepted, file-first}
 use Rattle.report.specs.declared.Tally.{Tally}
 use Rattle.ground.proofs.Bools.{left-part, right-part}
 use Rattle.text.specs.Text.{ascii, decimal, named, lineEnd}
-use Rattle.text.specs.Page.{page, writtenAll, joined}
+use Rattle.text.specs.Page.{page, writtenAll, endToEnd}
 use Rattle.report.specs.Lines.{refusalLine, imageLine, verdictName, blockLine, totalLine}
 use Rattle.report.specs.Report.{blockLines, tallyBelow, verdictAt, imageReport, reportFor, reportOf, room?, Reports}
 use Rattle.report.proofs.Counts.{Within, verdict-most, tally-within}
@@ -87,25 +87,25 @@ total-short n tally h w =
 
 -- ---- the report of an image
 
-joined-last : (lines : List (List ℕ)) (line : List ℕ) → length (joined (lines ++ line ∷ [])) ≡ length (joined lines) + length line
-unfolding joined
-joined-last [] line = omega (arith, length-append line [])
-joined-last (first ∷ lines) line =
-    let more = length-append first (joined (lines ++ line ∷ [])) in
-    let less = length-append first (joined lines) in
-    omega (arith, joined-last lines line)
+end-to-end-last : (lines : List (List ℕ)) (line : List ℕ) → length (endToEnd (lines ++ line ∷ [])) ≡ length (endToEnd lines) + length line
+unfolding endToEnd
+end-to-end-last [] line = omega (arith, length-append line [])
+end-to-end-last (first ∷ lines) line =
+    let more = length-append first (endToEnd (lines ++ line ∷ [])) in
+    let less = length-append first (endToEnd lines) in
+    omega (arith, end-to-end-last lines line)
 
-blocks-short : (image : List ℕ) (layout : Layout) (n : ℕ) → n ≤ 4096 → length (joined (blockLines image layout n)) ≤ 21 * n
-unfolding blockLines joined
+blocks-short : (image : List ℕ) (layout : Layout) (n : ℕ) → n ≤ 4096 → length (endToEnd (blockLines image layout n)) ≤ 21 * n
+unfolding blockLines endToEnd
 blocks-short image layout zero h = omega arith
 blocks-short image layout (suc n) h =
     let line = blockLine n (verdictAt image layout n) in
-    let last = joined-last (blockLines image layout n) line in
+    let last = end-to-end-last (blockLines image layout n) line in
     let short = block-short n (verdictAt image layout n) (omega arith) (verdict-most image layout n) .few in
     omega (arith, blocks-short image layout n (omega arith))
 
-report-short : (image : List ℕ) (layout : Layout) → Geometry layout → blocks layout ≤ 511 → length (joined (imageReport image layout)) ≤ 16384
-unfolding imageReport joined
+report-short : (image : List ℕ) (layout : Layout) → Geometry layout → blocks layout ≤ 511 → length (endToEnd (imageReport image layout)) ≤ 16384
+unfolding imageReport endToEnd
 report-short image layout ok few =
     let n = blocks layout in
     let known : layout .shape ≤ 2 = ⊎-elim (λ e. omega arith) (λ e. omega arith) (ok .shape-known) in
@@ -115,9 +115,9 @@ report-short image layout ok few =
     let rest = blockLines image layout n ++ total ∷ [] in
     omega (
       arith,
-      length-append first (joined rest),
+      length-append first (endToEnd rest),
       image-short (layout .shape) (layout .s) (layout .g) n (omega arith) (omega (arith, ok .s-last)) (omega arith) (omega arith) .few,
-      joined-last (blockLines image layout n) total,
+      end-to-end-last (blockLines image layout n) total,
       blocks-short image layout n (omega arith),
       total-short n (tallyBelow image layout n) (omega arith) (tally-within image layout n) .few,
     )
@@ -154,11 +154,11 @@ module _ (bytes : List ℕ) where
   abbrev found : Header
   found = Image (layoutIn bytes)
 
-  pub file-short : length (joined (reportOf bytes)) ≤ 16384
-  unfolding reportOf headerOf joined
+  pub file-short : length (endToEnd (reportOf bytes)) ≤ 16384
+  unfolding reportOf headerOf endToEnd
   file-short = by (fileRefusal bytes) refl
     where
-      by : (n : ℕ) → fileRefusal bytes ≡ n → length (joined (reportFor (headerIf n found) (wordsIn bytes))) ≤ 16384
+      by : (n : ℕ) → fileRefusal bytes ≡ n → length (endToEnd (reportFor (headerIf n found) (wordsIn bytes))) ≤ 16384
       by zero e =
           let ok = accepted bytes e in
           report-short (wordsIn bytes) (layoutIn bytes) (ok .geometry) (few-blocks bytes ok)
@@ -179,9 +179,9 @@ module _ (bytes : List ℕ) where
 pub report-whole : {bytes image out after printed : List ℕ} {next : ℕ} → Reports bytes image out next after printed
     → 8189 ≤ length image
     → 16384 ≤ length out
-    → page printed next ≡ page (joined (reportOf bytes) ++ drop (length (joined (reportOf bytes))) out) (length (joined (reportOf bytes)))
+    → page printed next ≡ page (endToEnd (reportOf bytes) ++ drop (length (endToEnd (reportOf bytes))) out) (length (endToEnd (reportOf bytes)))
 report-whole {bytes} {image} {out} {after} {printed} {next} r h k =
-    let text = joined (reportOf bytes) in
+    let text = endToEnd (reportOf bytes) in
     let short = file-short bytes in
     r .prints
     ∙ ap (λ (b : Bool). cond b (writtenAll (reportOf bytes) (page out 0)) (page out 0)) (file-room bytes image h)

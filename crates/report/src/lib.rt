@@ -2,16 +2,12 @@
 mod lines;
 mod reporting;
 
-pub use lines::block_line;
-pub use lines::image_line;
-pub use lines::refusal_line;
-pub use lines::total_line;
 pub use reporting::inspect;
 
 // The blocks of each verdict, and all bits mended.
-pub struct Tally {
-    pub clean: u32,
-    pub mended: u32,
-    pub lost: u32,
-    pub bits: u32,
+pub(crate) struct Tally {
+    pub(crate) clean: u32,
+    pub(crate) mended: u32,
+    pub(crate) lost: u32,
+    pub(crate) bits: u32,
 }

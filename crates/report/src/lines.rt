@@ -10,7 +10,7 @@ use block::Verdict;
 use text::put_named;
 use text::put_text;
 
-pub fn refusal_line(number: u32, out: &mut [u8], at: usize) -> usize
+pub(crate) fn refusal_line(number: u32, out: &mut [u8], at: usize) -> usize
     ensures { λ r. ⌜ page (now (out .exit)) r ≡ written (refusalLine number) (page (now (out .entry)) at) ⌝ }
 {
     let mut line = [0u8; 96];
@@ -19,7 +19,14 @@ pub fn refusal_line(number: u32, out: &mut [u8], at: usize) -> usize
     put_text(&line[..n], out, at)
 }
 
-pub fn image_line(shape: u32, s: u32, g: u32, blocks: u32, out: &mut [u8], at: usize) -> usize
+pub(crate) fn image_line(
+    shape: u32,
+    s: u32,
+    g: u32,
+    blocks: u32,
+    out: &mut [u8],
+    at: usize,
+) -> usize
     ensures { λ r. ⌜ page (now (out .exit)) r ≡ written (imageLine shape s g blocks) (page (now (out .entry)) at) ⌝ }
 {
     let mut line = [0u8; 96];
@@ -43,7 +50,7 @@ fn put_verdict(verdict: Verdict, line: &mut [u8], at: usize) -> usize
     }
 }
 
-pub fn block_line(block: u32, verdict: Verdict, out: &mut [u8], at: usize) -> usize
+pub(crate) fn block_line(block: u32, verdict: Verdict, out: &mut [u8], at: usize) -> usize
     ensures { λ r. ⌜ page (now (out .exit)) r ≡ written (blockLine block verdict) (page (now (out .entry)) at) ⌝ }
 {
     let mut line = [0u8; 96];
@@ -53,7 +60,7 @@ pub fn block_line(block: u32, verdict: Verdict, out: &mut [u8], at: usize) -> us
     put_text(&line[..n], out, at)
 }
 
-pub fn total_line(tally: Tally, out: &mut [u8], at: usize) -> usize
+pub(crate) fn total_line(tally: Tally, out: &mut [u8], at: usize) -> usize
     ensures { λ r. ⌜ page (now (out .exit)) r ≡ written (totalLine tally) (page (now (out .entry)) at) ⌝ }
 {
     let mut line = [0u8; 96];

@@ -14,10 +14,10 @@ use Rattle.rota.specs.Numbers.{placeNumber, placeGiven, dueNumber, first
 use Rattle.rota.specs.declared.Rota.{Rota}
 use Rattle.rota.specs.declared.Place.{Place}
 use Rattle.rota.specs.declared.Place.the-variants.{Given, Refused as NoPlace}
-use Rattle.rota.specs.declared.Asked.{Asked}
+use Rattle.rota.specs.declared.RotaAsked.{RotaAsked}
 use Rattle.rota.specs.declared.Due.{Due}
 use Rattle.rota.specs.declared.Due.the-variants.{One, Two, Refused as NoneDue}
-use Rattle.rota.specs.declared.Turned.{Turned}
+use Rattle.rota.specs.declared.RotaTurned.{RotaTurned}
 
 pub place-told : (a b : Place) → (a ≡ NoPlace 0 → ⊥) → (b ≡ NoPlace 0 → ⊥) → placeNumber a ≡ placeNumber b → placeGiven a ≡ placeGiven b → a ≡ b
 place-told (NoPlace v) (NoPlace w) h k e f = ap NoPlace e
@@ -42,7 +42,7 @@ module _ (n : ℕ) (r : Rota) where
 
   module _ (b : ℕ) where
     -- the answer, by the number of the refusal
-    abbrev answerBy : ℕ → Asked
+    abbrev answerBy : ℕ → RotaAsked
     answerBy number =
         ifZero number (record { place = Given (askPlace (planOf r) b); rota = rotaOf (joined (planOf r) b) }) (record { place = NoPlace number; rota = r })
 
@@ -69,7 +69,7 @@ module _ (n : ℕ) (r : Rota) where
   -- ---- turn
 
   -- the answer, by the number of the refusal and the waiting list
-  abbrev turnBy : ℕ → List ℕ → Turned
+  abbrev turnBy : ℕ → List ℕ → RotaTurned
   turnBy number l =
       ifZero number (record { due = dueOf (r .next) l; rota = rotaOf (movedOn n (planOf r)) }) (record { due = NoneDue number; rota = r })
 

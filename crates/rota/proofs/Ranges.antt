@@ -16,9 +16,9 @@ use Rattle.rota.specs.Record.{unbroken, planOf, rotaOf, askNumber, rotaA
 use Rattle.rota.specs.Numbers.{dueNumber, firstBlock, secondBlock}
 use Rattle.rota.specs.declared.Rota.{Rota}
 use Rattle.rota.specs.declared.Place.the-variants.{Given, Refused as NoPlace}
-use Rattle.rota.specs.declared.Asked.{Asked}
+use Rattle.rota.specs.declared.RotaAsked.{RotaAsked}
 use Rattle.rota.specs.declared.Due.the-variants.{Refused as NoneDue}
-use Rattle.rota.specs.declared.Turned.{Turned}
+use Rattle.rota.specs.declared.RotaTurned.{RotaTurned}
 use Rattle.rota.proofs.Plans.{ask-place}
 use Rattle.rota.proofs.Entries.{plan-fit}
 
@@ -33,7 +33,7 @@ module _ (n : ℕ) (r : Rota) where
   ask-placed b k e = go (unbroken n r) refl (askRefusal n (planOf r) b) refl e
     where
       go : (t : Bool) → unbroken n r ≡ t → (v : ℕ) → askRefusal n (planOf r) b ≡ v
-          → ifZero {A = Asked} (5 when not t else v) (record { place = Given (askPlace (planOf r) b); rota = rotaOf (joined (planOf r) b) })
+          → ifZero {A = RotaAsked} (5 when not t else v) (record { place = Given (askPlace (planOf r) b); rota = rotaOf (joined (planOf r) b) })
           (record { place = NoPlace (5 when not t else v); rota = r }) .place ≡ Given k
           → (1 ≤ k) × (k ≤ places)
       go true ok zero z e =
@@ -46,7 +46,7 @@ module _ (n : ℕ) (r : Rota) where
   unfolding rotaTurned turnNumber
   due-inside e = go (unbroken n r) refl e
     where
-      answer : Bool → Turned
+      answer : Bool → RotaTurned
       answer t =
           ifZero (5 when not t else 0) (record { due = due (planOf r); rota = rotaOf (movedOn n (planOf r)) })
           (record { due = NoneDue (5 when not t else 0); rota = r })

@@ -15,7 +15,7 @@ use Rattle.rota.specs.Line.{places, place, full, asksOf}
 use Rattle.rota.specs.Asking.{askRefusal}
 use Rattle.rota.specs.Record.{askNumber, turnNumber}
 use Rattle.rota.specs.Broken.{InUse}
-use Rattle.rota.specs.Reason.{badRecord, blockOutside, noPlace, askRules, turnRules}
+use Rattle.rota.specs.Reason.{badRecord, noBlock, lineFull, rotaAskRules, rotaTurnRules}
 use Rattle.rota.specs.declared.line.Line.{Line}
 use Rattle.rota.specs.declared.Rota.{Rota}
 use Rattle.rota.proofs.ListTold.{waiting-told}
@@ -30,22 +30,22 @@ module _ (capacity : ℕ) (line : Line) where
   none-left : ((k : ℕ) → k < capacity → InUse line k) → length (asksOf line) < capacity → ⊥
   none-left all h = omega (arith, used-inside line (length (asksOf line)) (all (length (asksOf line)) h))
 
-  pub no-place : (block : ℕ) → Rung (noPlace capacity line block) (8 when eqb (place block (asksOf line)) 0 && full capacity (asksOf line) else 0)
+  pub no-place : (block : ℕ) → Rung (lineFull capacity line block) (8 when eqb (place block (asksOf line)) 0 && full capacity (asksOf line) else 0)
   no-place block =
-      rung-both (noPlace capacity line block) (waiting-told block (asksOf line)) (leb-told capacity (length (asksOf line)))
+      rung-both (lineFull capacity line block) (waiting-told block (asksOf line)) (leb-told capacity (length (asksOf line)))
       (λ none all. (all-used all, λ k u e. none (some-used line (λ a. a ≡ block) k u e)))
       (λ r. (λ s. r .1 (s .at) (used line (s .at) (s .inside)) (used-some line (λ a. a ≡ block) s), none-left (r .0)))
 
 -- ---- the ladders
 
 module _ (n : ℕ) (rota : Rota) where
-  pub ask-first : (block : ℕ) → FirstOf (askRules n rota block) (askNumber n rota block)
+  pub ask-first : (block : ℕ) → FirstOf (rotaAskRules n rota block) (askNumber n rota block)
   unfolding askNumber askRefusal
   ask-first block =
-      let last = noPlace places (rota .line) block in
-      first-told (badRecord n rota) (blockOutside n block ∷ last ∷ []) _ (unbroken-told n rota)
-      (first-told (blockOutside n block) (last ∷ []) _ (ltb-told block n) (no-place places (rota .line) block))
+      let last = lineFull places (rota .line) block in
+      first-told (badRecord n rota) (noBlock n block ∷ last ∷ []) _ (unbroken-told n rota)
+      (first-told (noBlock n block) (last ∷ []) _ (ltb-told block n) (no-place places (rota .line) block))
 
-  pub turn-first : FirstOf (turnRules n rota) (turnNumber n rota)
+  pub turn-first : FirstOf (rotaTurnRules n rota) (turnNumber n rota)
   unfolding turnNumber
   turn-first = first-told (badRecord n rota) [] _ (unbroken-told n rota) refl

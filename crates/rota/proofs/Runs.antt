@@ -14,15 +14,15 @@ use Rattle.rota.specs.Record.{unbroken, rotaOf, askNumber, rotaAsked, tu
 use Rattle.rota.specs.Steps.{Step, ask, turn, other, turns, rotaStep, rotaRun, rotaAt, dueAt}
 use Rattle.rota.specs.declared.Rota.{Rota}
 use Rattle.rota.specs.declared.Place.the-variants.{Given, Refused as NoPlace}
-use Rattle.rota.specs.declared.Asked.{Asked}
-use Rattle.rota.specs.declared.Turned.{Turned}
+use Rattle.rota.specs.declared.RotaAsked.{RotaAsked}
+use Rattle.rota.specs.declared.RotaTurned.{RotaTurned}
 use Rattle.rota.proofs.Lines.{list-said, said-sound}
 use Rattle.rota.proofs.Plans.{Sound, start-sound, ask-sound, turn-sound, askAfter}
 
 -- ---- one call
 
 -- the answer to an ask, by the number of its refusal
-abbrev pub answerBy : Plan → ℕ → ℕ → Asked
+abbrev pub answerBy : Plan → ℕ → ℕ → RotaAsked
 answerBy p b number =
     ifZero number (record { place = Given (askPlace p b); rota = rotaOf (joined p b) }) (record { place = NoPlace number; rota = rotaOf p })
 
@@ -41,7 +41,7 @@ module _ (n : ℕ) (p : Plan) (s : Sound n p) where
 
   asked-rota : (b : ℕ) → rotaAsked n (rotaOf p) b .rota ≡ rotaOf (askAfter n p b)
   unfolding askAfter
-  asked-rota b = ap (λ (a : Asked). a .rota) (asked-is b) ∙ go (askRefusal n p b)
+  asked-rota b = ap (λ (a : RotaAsked). a .rota) (asked-is b) ∙ go (askRefusal n p b)
     where
       go : (v : ℕ) → answerBy p b v .rota ≡ rotaOf (ifZero v (joined p b) p)
       go zero = refl
@@ -92,7 +92,7 @@ module _ {Other : Type 0} where
 
     pub step-runs : (x : Step Other) (p : Plan) → Sound n p → rotaStep n x (rotaOf p) ≡ rotaOf (planStep x p)
     step-runs (ask b) p s = asked-rota n p s b
-    step-runs turn p s = ap (λ (t : Turned). t .rota) (turned-is n p s)
+    step-runs turn p s = ap (λ (t : RotaTurned). t .rota) (turned-is n p s)
     step-runs (other x) p s = refl
 
     pub run-runs : (l : List (Step Other)) (p : Plan) → Sound n p → rotaRun n l (rotaOf p) ≡ rotaOf (planRun l p)
@@ -113,4 +113,4 @@ module _ {Other : Type 0} where
       rota-runs l = run-runs l start (start-sound n some)
 
       pub due-runs : (l : List (Step Other)) → dueAt n l ≡ due (planAt l)
-      due-runs l = ap (λ (r : Rota). rotaTurned n r .due) (rota-runs l) ∙ ap (λ (t : Turned). t .due) (turned-is n (planAt l) (plan-sound l))
+      due-runs l = ap (λ (r : Rota). rotaTurned n r .due) (rota-runs l) ∙ ap (λ (t : RotaTurned). t .due) (turned-is n (planAt l) (plan-sound l))

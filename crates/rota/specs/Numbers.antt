@@ -2,6 +2,7 @@
 -- where no ask is served. Assumes nothing.
 use Prim.Native.Nat.{ℕ}
 use mathlib.Core.Bool.{Bool, true, false}
+use mathlib.Core.List.{List, [], _∷_}
 use Rattle.rota.specs.declared.Place.{Place}
 use Rattle.rota.specs.declared.Place.the-variants.{Given, Refused as NoPlace}
 use Rattle.rota.specs.declared.Due.{Due}
@@ -14,6 +15,10 @@ placeNumber (Given place) = 0
 abbrev pub placeGiven : Place → ℕ
 placeGiven (NoPlace number) = 0
 placeGiven (Given place) = place
+
+-- the place that an ask got as words, and 0 where it got none
+abbrev pub placeWords : Place → List ℕ
+placeWords place = placeGiven place ∷ []
 
 abbrev pub dueNumber : Due → ℕ
 dueNumber (NoneDue number) = number

@@ -12,21 +12,21 @@ use Rattle.rota.specs.declared.Rota.{Rota}
 abbrev pub badRecord : ℕ → Rota → Rule
 badRecord n rota = record { number = 5; reason = Broken n rota }
 
-abbrev pub blockOutside : ℕ → ℕ → Rule
-blockOutside n block = record { number = 6; reason = n ≤ block }
+abbrev pub noBlock : ℕ → ℕ → Rule
+noBlock n block = record { number = 6; reason = n ≤ block }
 
 -- every place of the line is in use, and none of them holds the block
-abbrev pub noPlace : ℕ → Line → ℕ → Rule
-noPlace capacity line block =
+abbrev pub lineFull : ℕ → Line → ℕ → Rule
+lineFull capacity line block =
     record {
       number = 8;
       reason = ((k : ℕ) → k < capacity → InUse line k) × ((k : ℕ) → InUse line k → waits line k ≡ block → ⊥);
     }
 
 -- Ask: 5, 6, 8
-abbrev pub askRules : ℕ → Rota → ℕ → List Rule
-askRules n rota block = badRecord n rota ∷ blockOutside n block ∷ noPlace places (rota .line) block ∷ []
+abbrev pub rotaAskRules : ℕ → Rota → ℕ → List Rule
+rotaAskRules n rota block = badRecord n rota ∷ noBlock n block ∷ lineFull places (rota .line) block ∷ []
 
 -- Turn: 5
-abbrev pub turnRules : ℕ → Rota → List Rule
-turnRules n rota = badRecord n rota ∷ []
+abbrev pub rotaTurnRules : ℕ → Rota → List Rule
+rotaTurnRules n rota = badRecord n rota ∷ []

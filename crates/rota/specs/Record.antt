@@ -11,9 +11,9 @@ use Rattle.rota.specs.Asking.{askRefusal, askPlace, joined}
 use Rattle.rota.specs.Turning.{due, movedOn}
 use Rattle.rota.specs.declared.Rota.{Rota}
 use Rattle.rota.specs.declared.Place.the-variants.{Given, Refused as NoPlace}
-use Rattle.rota.specs.declared.Asked.{Asked}
+use Rattle.rota.specs.declared.RotaAsked.{RotaAsked}
 use Rattle.rota.specs.declared.Due.the-variants.{Refused as NoneDue}
-use Rattle.rota.specs.declared.Turned.{Turned}
+use Rattle.rota.specs.declared.RotaTurned.{RotaTurned}
 
 unfoldable pub unbroken : ℕ → Rota → Bool
 unbroken n rota = ltb (rota .next) n && sound places n (rota .line)
@@ -32,7 +32,7 @@ fresh = rotaOf start
 unfoldable pub askNumber : ℕ → Rota → ℕ → ℕ
 askNumber n rota block = 5 when not (unbroken n rota) else askRefusal n (planOf rota) block
 
-unfoldable pub rotaAsked : ℕ → Rota → ℕ → Asked
+unfoldable pub rotaAsked : ℕ → Rota → ℕ → RotaAsked
 rotaAsked n rota block =
     ifZero (askNumber n rota block)
     (record { place = Given (askPlace (planOf rota) block); rota = rotaOf (joined (planOf rota) block) })
@@ -41,7 +41,7 @@ rotaAsked n rota block =
 unfoldable pub turnNumber : ℕ → Rota → ℕ
 turnNumber n rota = 5 when not (unbroken n rota) else 0
 
-unfoldable pub rotaTurned : ℕ → Rota → Turned
+unfoldable pub rotaTurned : ℕ → Rota → RotaTurned
 rotaTurned n rota =
     ifZero (turnNumber n rota)
     (record { due = due (planOf rota); rota = rotaOf (movedOn n (planOf rota)) })

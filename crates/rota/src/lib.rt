@@ -20,7 +20,7 @@ pub enum Place {
     Given(u32),
 }
 
-pub struct Asked {
+pub struct RotaAsked {
     pub place: Place,
     pub rota: Rota,
 }
@@ -32,7 +32,7 @@ pub enum Due {
     Two(u32, u32),
 }
 
-pub struct Turned {
+pub struct RotaTurned {
     pub due: Due,
     pub rota: Rota,
 }
@@ -49,12 +49,12 @@ impl Rota {
     }
 
     // Puts a block on the line, for a patrol of `n` blocks.
-    pub fn ask(self, n: u32, block: u32) -> Asked
+    pub fn ask(self, n: u32, block: u32) -> RotaAsked
         ensures { λ r. ⌜ r ≡ rotaAsked n self block ⌝ }
     {
         if self.unbroken(n) {
             if n <= block {
-                return Asked {
+                return RotaAsked {
                     place: Place::Refused(6),
                     rota: self,
                 };
@@ -63,32 +63,32 @@ impl Rota {
             let line = self.line;
             let at = line.place_of(block);
             if at != 0 {
-                return Asked {
+                return RotaAsked {
                     place: Place::Given(at),
                     rota: self,
                 };
             }
             if line.full() {
-                return Asked {
+                return RotaAsked {
                     place: Place::Refused(8),
                     rota: self,
                 };
             }
             let longer = line.joined(block);
             let last = longer.waiting;
-            return Asked {
+            return RotaAsked {
                 place: Place::Given(last),
                 rota: Rota { next, line: longer },
             };
         }
-        Asked {
+        RotaAsked {
             place: Place::Refused(5),
             rota: self,
         }
     }
 
     // The blocks whose turn it is, in a patrol of `n` blocks.
-    pub fn turn(self, n: u32) -> Turned
+    pub fn turn(self, n: u32) -> RotaTurned
         ensures { λ r. ⌜ r ≡ rotaTurned n self ⌝ }
     {
         if self.unbroken(n) {
@@ -96,19 +96,19 @@ impl Rota {
             let line = self.line;
             let next = onward(first, n);
             if line.waiting == 0 {
-                return Turned {
+                return RotaTurned {
                     due: Due::One(first),
                     rota: Rota { next, line },
                 };
             }
             let second = line.asks[0];
             let rest = line.moved_up();
-            return Turned {
+            return RotaTurned {
                 due: Due::Two(first, second),
                 rota: Rota { next, line: rest },
             };
         }
-        Turned {
+        RotaTurned {
             due: Due::Refused(5),
             rota: self,
         }

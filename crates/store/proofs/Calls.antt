@@ -34,7 +34,7 @@ use Rattle.store.proofs.Answers.{answered-refused}
 use Rattle.store.proofs.Image.{gathered-stride, placed-stride}
 use Rattle.store.proofs.Located.{list-fits}
 use Rattle.store.proofs.Strides.{left}
-use Rattle.store.proofs.Verdicts.{lost-some, not-lost}
+use Rattle.block.proofs.Told.{lost-some, not-lost}
 
 -- a buffer of the exact length holds the data words alone
 data-fills : (shape : Shape) (block buffer : List ℕ) → length buffer ≡ words shape → dataInto shape block buffer ≡ dataOf shape block
@@ -70,8 +70,8 @@ module _ (image : List ℕ) {layout : Layout} {block : ℕ} {shape : Shape} {at 
   whole : strideRead image at (layout .s) blank (rows shape) ≡ gathered layout block image
   whole = rw (site .first, site .same-shape) (gathered-stride layout block image)
 
-  back : (given : List ℕ) → strideWrite image at (layout .s) given (rows shape) ≡ placed layout block given image
-  back given = rw (site .first, site .same-shape) (placed-stride layout block given image)
+  scattered : (given : List ℕ) → strideWrite image at (layout .s) given (rows shape) ≡ placed layout block given image
+  scattered given = rw (site .first, site .same-shape) (placed-stride layout block given image)
 
   pub write-stored : (list valid after : List ℕ) → length list ≡ words shape → valid ≡ validBlock shape list
       → after ≡ strideWrite image at (layout .s) valid (rows shape)
@@ -82,7 +82,7 @@ module _ (image : List ℕ) {layout : Layout} {block : ℕ} {shape : Shape} {at 
       record {
         answers = rw none;
         leaves = rw none
-            (w ∙ back valid ∙ ap (λ (l : List ℕ). placed layout block l image) (e ∙ ap (λ (k : Shape). validBlock k list) (site .same-shape)));
+            (w ∙ scattered valid ∙ ap (λ (l : List ℕ). placed layout block l image) (e ∙ ap (λ (k : Shape). validBlock k list) (site .same-shape)));
       }
 
   module _ (found : List ℕ) (took : found ≡ strideRead image at (layout .s) blank (rows shape)) (v : Verdict) (says : v ≡ verdictOf shape found) where
@@ -102,7 +102,7 @@ module _ (image : List ℕ) {layout : Layout} {block : ℕ} {shape : Shape} {at 
         record {
           answers = rw (site .passed) (ap Found judged);
           leaves = rw (site .passed)
-              (w ∙ back (mendedBlock shape found) ∙ ap (λ (l : List ℕ). placed layout block l image) (mends (mendedBlock shape found) refl));
+              (w ∙ scattered (mendedBlock shape found) ∙ ap (λ (l : List ℕ). placed layout block l image) (mends (mendedBlock shape found) refl));
         }
 
     module _ (buffer : List ℕ) (fits : length buffer ≡ words shape) where

@@ -2,7 +2,6 @@ pub mod Ladder
 pub mod Located
 pub mod Image
 pub mod Rows
-pub mod Verdicts
 pub mod Strides
 pub mod Cleared
 pub mod FreshBlocks

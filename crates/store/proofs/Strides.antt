@@ -20,7 +20,7 @@ use Rattle.block.proofs.Judged.{rows-fit}
 use Rattle.block.proofs.Looked.{valid-fits, valid-clean}
 use Rattle.store.specs.Inner.{strideRead, strideWrite}
 use Rattle.store.proofs.Rows.{same-verdict}
-use Rattle.store.proofs.Verdicts.{not-mended}
+use Rattle.block.proofs.Told.{not-mended}
 
 module _ (image : List ℕ) (shape : Shape) (at s : ℕ) where
   read-size : length (strideRead image at s blank (rows shape)) ≡ 72

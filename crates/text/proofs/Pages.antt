@@ -8,7 +8,7 @@ use native.Mathlib.Omega.{arith}
 use borrow.Author.Tests.{le-leb, lt-leb}
 use lib.ListN.{length, take, drop, length-append, length-drop, take-append-drop}
 use lib.Seq.{take-at, take-length, length-take-le, paste, drop-append-add, drop-drop}
-use Rattle.text.specs.Page.{Page, page, over, written, writtenAll, joined}
+use Rattle.text.specs.Page.{Page, page, over, written, writtenAll, endToEnd}
 
 -- ---- a text in bytes
 
@@ -77,12 +77,12 @@ over-more bytes at line rest h =
     ∙ ap (λ (n : ℕ). drop n bytes) whole)
     ∙ ap (λ (l : List ℕ). l ++ drop (at + length (line ++ rest)) bytes) (append-assoc (take at bytes) line rest)
 
-pub all-fit : (lines : List (List ℕ)) (bytes : List ℕ) (at : ℕ) → at + length (joined lines) ≤ length bytes
-    → writtenAll lines (page bytes at) ≡ page (over bytes at (joined lines)) (at + length (joined lines))
-unfolding writtenAll joined
+pub all-fit : (lines : List (List ℕ)) (bytes : List ℕ) (at : ℕ) → at + length (endToEnd lines) ≤ length bytes
+    → writtenAll lines (page bytes at) ≡ page (over bytes at (endToEnd lines)) (at + length (endToEnd lines))
+unfolding writtenAll endToEnd
 all-fit [] bytes at h = ap₂ page (sym (over-none bytes at)) (omega arith)
 all-fit (line ∷ lines) bytes at h =
-    let size = length-append line (joined lines) in
+    let size = length-append line (endToEnd lines) in
     ap (writtenAll lines) (written-fits line bytes at (omega arith))
     ∙ all-fit lines (over bytes at line) (at + length line) (omega (arith, length-over bytes at line (omega arith)))
-    ∙ ap₂ page (over-more bytes at line (joined lines) (omega arith)) (omega arith)
+    ∙ ap₂ page (over-more bytes at line (endToEnd lines) (omega arith)) (omega arith)

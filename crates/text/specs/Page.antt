@@ -26,6 +26,6 @@ writtenAll [] p = p
 writtenAll (line ∷ lines) p = writtenAll lines (written line p)
 
 -- the lines as one text
-unfoldable pub joined : List (List ℕ) → List ℕ
-joined [] = []
-joined (line ∷ lines) = line ++ joined lines
+unfoldable pub endToEnd : List (List ℕ) → List ℕ
+endToEnd [] = []
+endToEnd (line ∷ lines) = line ++ endToEnd lines

@@ -35,7 +35,7 @@ module _ (words : List ℕ) (at block : ℕ) (verdict : Verdict) where
       let width : at + 1 + verdictWidth ≡ at + visitWidth = omega arith in
       e
       ∙ ap (λ (w : List ℕ). paste (set words at block) (at + 1) w verdictWidth) s
-      ∙ ap₂ (λ (front back : List ℕ). front ++ verdictWords verdict ++ back)
+      ∙ ap₂ (λ (front rest : List ℕ). front ++ verdictWords verdict ++ rest)
       (ap (λ (k : ℕ). take k (set words at block)) (add-one at) ∙ take-suc-set words at block inside)
       (drop-set-lt (at + 1 + verdictWidth) words at block behind ∙ ap (λ (k : ℕ). drop k words) width)
       ∙ ap (λ (front : List ℕ). front ++ drop (at + visitWidth) words) (append-snoc (take at words) block (verdictWords verdict))

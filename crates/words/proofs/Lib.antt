@@ -1,3 +1,3 @@
 pub mod Copies
-pub mod Back
+pub mod RoundTrip
 pub mod OneResult

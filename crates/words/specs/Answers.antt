@@ -1,11 +1,9 @@
 -- Answers as words. How many a verdict takes is counted once, from the words that say that there is none. Assumes nothing.
 use Prim.Native.Nat.{ℕ, _+_}
-use mathlib.Core.List.{List, [], _∷_, _++_}
+use mathlib.Core.List.{List, _++_}
 use lib.ListN.{length, take, drop}
 use Rattle.block.specs.declared.Verdict.{Verdict}
 use Rattle.block.specs.Verdict.{noVerdict}
-use Rattle.rota.specs.declared.Place.{Place}
-use Rattle.rota.specs.Numbers.{placeGiven}
 use Rattle.patrol.specs.Numbers.{visitWords, noVisit}
 
 abbrev pub verdictWidth : ℕ
@@ -17,10 +15,6 @@ visitWidth = length noVisit
 
 abbrev pub reportWidth : ℕ
 reportWidth = visitWidth + visitWidth
-
--- the place that an ask got, and 0 where it got none
-abbrev pub placeWords : Place → List ℕ
-placeWords place = placeGiven place ∷ []
 
 -- words with those of a visit in their place from `at` on
 abbrev pub withVisit : List ℕ → ℕ → ℕ → Verdict → List ℕ

@@ -26,8 +26,8 @@ xored c = c .before .before .before .before .before
 abbrev sums : tie.After-rows-before → tie.After-lane-sums
 sums c = xored c .before .before .before
 
-place-data-requires : tie.Need-place-data-requires
-place-data-requires c κs = search needs
+spread-data-requires : tie.Need-spread-data-requires
+spread-data-requires c κs = search needs
 
 slice-aggregate-lane-sums : tie.Need-slice-aggregate-lane-sums
 slice-aggregate-lane-sums c = search needs
@@ -54,8 +54,8 @@ module _ (c : tie.After-rows-before) where
   abbrev placed : List ℕ
   placed = dataBlock shape list
 
-  placed-is : sums c .before .before .place-data .result ≡ placed
-  placed-is = sums c .before .before .place-data .ensures
+  placed-is : sums c .before .before .spread-data .result ≡ placed
+  placed-is = sums c .before .before .spread-data .ensures
 
   sums-are : sums c .lane-sums .result ≡ sumsOf shape placed
   sums-are = sums c .lane-sums .ensures ∙ ap (sumsOf shape) placed-is
@@ -87,7 +87,7 @@ pub encode-spec : {M : Type 1} → statement M
 encode-spec =
     tie.close
     (tie.spec
-    place-data-requires
+    spread-data-requires
     slice-aggregate-lane-sums
     lane-sums-requires
     xor-all-requires

@@ -1,10 +1,9 @@
 -- `foldgrebe_ask` meets its contract: what an ask of the record that was lent answers, and the record that it makes, as words. Assumes nothing.
 use mathlib.Core.Path.{_≡_, ap, _∙_}
-use Rattle.rota.specs.Numbers.{placeNumber}
+use Rattle.rota.specs.Numbers.{placeNumber, placeWords}
 use Rattle.patrol.specs.declared.Record.{Record}
 use Rattle.patrol.specs.declared.Asked.{Asked}
 use Rattle.patrol.specs.Ask.{asked}
-use Rattle.words.specs.Answers.{placeWords}
 use Rattle.words.specs.Records.{recordOf, recordWords}
 use borrow.Author.Needs.{needs}
 use Rattle.foldgrebe.proofs.patrol_calls.foldgrebe_ask.Statement.{statement}
@@ -15,7 +14,7 @@ abbrev start : tie.After-ask → tie.Start
 start c = c .before .before .before
 
 -- what was answered: the ask of the record that the lent words hold
-answered : (c : tie.After-ask) → c .ask .result ≡ asked (recordOf (start c .args .back .now)) (start c .args .block)
+answered : (c : tie.After-ask) → c .ask .result ≡ asked (recordOf (start c .args .«record» .now)) (start c .args .block)
 answered c = c .ask .ensures ∙ ap (λ (r : Record). asked r (start c .args .block)) (c .before .record-of .ensures)
 
 record-of-requires : tie.Need-record-of-requires

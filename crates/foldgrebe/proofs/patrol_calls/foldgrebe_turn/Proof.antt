@@ -17,11 +17,11 @@ abbrev turn : tie.After-record-words → tie.After-turn
 turn c = c .before .before .before
 
 -- the record that the lent words hold
-held : (c : tie.After-turn) → c .before .before .record-of .result ≡ recordOf (start c .args .back .now)
+held : (c : tie.After-turn) → c .before .before .record-of .result ≡ recordOf (start c .args .«record» .now)
 held c = c .before .before .record-of .ensures
 
 -- what was answered: the turn of that record
-answered : (c : tie.After-turn) → c .turn .result ≡ turned (recordOf (start c .args .back .now)) (start c .args .image .now)
+answered : (c : tie.After-turn) → c .turn .result ≡ turned (recordOf (start c .args .«record» .now)) (start c .args .image .now)
 answered c = c .turn .ensures .answers ∙ ap (λ (r : Record). turned r (start c .args .image .now)) (held c)
 
 record-of-requires : tie.Need-record-of-requires

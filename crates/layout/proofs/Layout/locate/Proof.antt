@@ -71,11 +71,11 @@ returns-3 c =
       first = rw (height (c .before)) (first-alone _ _ _ (c .if3 .taken));
     })
 
-cast-place : tie.Need-cast-place
-cast-place c = search needs
+cast-within : tie.Need-cast-within
+cast-within c = search needs
 
-rem-place : tie.Need-rem-place
-rem-place c = let ok = accepted _ _ _ (none (c .before .before .before)) in ok .geometry .s-first
+rem-within : tie.Need-rem-within
+rem-within c = let ok = accepted _ _ _ (none (c .before .before .before)) in ok .geometry .s-first
 
 sub-t11 : tie.Need-sub-t11
 sub-t11 c = mod-le _ _
@@ -110,8 +110,8 @@ locate-spec =
     rows-requires
     mul-t12
     returns-3
-    cast-place
-    rem-place
+    cast-within
+    rem-within
     sub-t11
     mul-t13
     add-t14

@@ -9,7 +9,7 @@ use Rattle.block.specs.declared.Verdict.{Verdict}
 use Rattle.block.specs.declared.Verdict.the-variants.{Clean, Mended, Lost}
 use Rattle.block.specs.Verdict.{verdictCount}
 use Rattle.report.specs.Lines.{verdictName, blockLine}
-use Rattle.report.proofs.Counts.{count-fits}
+use Rattle.block.proofs.Told.{count-fits}
 use Rattle.report.proofs.lines.block_line.Statement.{statement}
 use Rattle.report.proofs.lines.block_line.Tie as tie
 

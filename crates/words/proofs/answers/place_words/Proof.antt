@@ -1,6 +1,6 @@
 -- `words::answers::place_words` meets its contract, answer by answer. Assumes nothing.
 use mathlib.Core.Path.{sym, ap}
-use Rattle.words.specs.Answers.{placeWords}
+use Rattle.rota.specs.Numbers.{placeWords}
 use borrow.Author.Needs.{needs}
 use Rattle.words.proofs.answers.place_words.Statement.{statement}
 use Rattle.words.proofs.answers.place_words.Tie as tie

@@ -25,7 +25,7 @@ impl Layout {
         if s == 1 {
             return Site::At(shape, height * whole);
         }
-        let place = whole % (s as usize);
-        Site::At(shape, height * (whole - place) + place)
+        let within = whole % (s as usize);
+        Site::At(shape, height * (whole - within) + within)
     }
 }

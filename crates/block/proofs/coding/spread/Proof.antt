@@ -1,4 +1,4 @@
--- `block::coding::place` meets its contract. The loop's invariant: the words passed are placed; those that are missing are zero already. Assumes nothing.
+-- `block::coding::spread` meets its contract. The loop's invariant: the words passed are in their rows; those that are missing are zero already. Assumes nothing.
 use Prim.Native.Nat.{ℕ, _≤_, _<_, _-_}
 use mathlib.Core.List.{List}
 use mathlib.Core.Path.{_≡_, refl, sym, ap, _∙_}
@@ -12,8 +12,8 @@ use Rattle.ground.specs.Stores.{stores}
 use Rattle.block.specs.Inner.{Listed, Rising}
 use Rattle.block.proofs.Data.{blank-zero}
 use Rattle.ground.proofs.Smaller.{least-of}
-use Rattle.block.proofs.coding.place.Statement.{statement}
-use Rattle.block.proofs.coding.place.Tie as tie
+use Rattle.block.proofs.coding.spread.Statement.{statement}
+use Rattle.block.proofs.coding.spread.Tie as tie
 
 abbrev Inv-loop : tie.InvT-loop
 Inv-loop rows list n block₀ k₀ block k =
@@ -95,8 +95,8 @@ returns c =
     ∙ ap (stores (replicate 72 0) (λ j. getD (args .rows .now) j 0 - 1) (λ j. getD (args .list .now) j 0)) e
     ∙ missing (args .rows .now) (args .list .now) _ (pre .0) (pre .1) (inv .1) (inv .3)
 
-pub place-spec : {M : Type 1} → statement M
-place-spec =
+pub spread-spec : {M : Type 1} → statement M
+spread-spec =
     tie.close
     (tie.spec
     Inv-loop

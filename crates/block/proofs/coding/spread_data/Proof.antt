@@ -1,4 +1,4 @@
--- `block::coding::place_data` meets its contract: its tables are, by computing, the data rows of each shape. Assumes nothing.
+-- `block::coding::spread_data` meets its contract: its tables are, by computing, the data rows of each shape. Assumes nothing.
 use mathlib.Core.Bool.{not}
 use Prim.Native.Nat.{ℕ}
 use mathlib.Core.List.{List}
@@ -9,8 +9,8 @@ use Rattle.lane.specs.Rows.{power?, rowsWhere}
 use Rattle.block.specs.declared.Shape.{Shape}
 use Rattle.block.specs.Block.{dataBlock}
 use Rattle.block.proofs.Listed.{rows-listed, rows-rising}
-use Rattle.block.proofs.coding.place_data.Statement.{statement}
-use Rattle.block.proofs.coding.place_data.Tie as tie
+use Rattle.block.proofs.coding.spread_data.Statement.{statement}
+use Rattle.block.proofs.coding.spread_data.Tie as tie
 
 -- the start, from where either shape is told
 abbrev one : tie.After-enum-told → tie.Start
@@ -26,40 +26,40 @@ of-shape told list placed e = e ∙ ap (λ (s : Shape). dataBlock s list) (sym t
 enum-told : tie.Need-enum-told
 enum-told c = search needs
 
-slice-aggregate-place : tie.Need-slice-aggregate-place
-slice-aggregate-place c = search needs
+slice-aggregate-spread : tie.Need-slice-aggregate-spread
+slice-aggregate-spread c = search needs
 
-place-requires : tie.Need-place-requires
+spread-requires : tie.Need-spread-requires
 unfolding rowsWhere power?
-place-requires c κs = (rows-listed (λ p. not (power? 4 p)) 15 72 (omega arith), rows-rising (λ p. not (power? 4 p)) 15)
+spread-requires c κs = (rows-listed (λ p. not (power? 4 p)) 15 72 (omega arith), rows-rising (λ p. not (power? 4 p)) 15)
 
 enum-told-2 : tie.Need-enum-told-2
 enum-told-2 c = search needs
 
-slice-aggregate-place-2 : tie.Need-slice-aggregate-place-2
-slice-aggregate-place-2 c = search needs
+slice-aggregate-spread-2 : tie.Need-slice-aggregate-spread-2
+slice-aggregate-spread-2 c = search needs
 
-place-requires-2 : tie.Need-place-requires-2
+spread-requires-2 : tie.Need-spread-requires-2
 unfolding rowsWhere power?
-place-requires-2 c κs = (rows-listed (λ p. not (power? 7 p)) 71 72 (omega arith), rows-rising (λ p. not (power? 7 p)) 71)
+spread-requires-2 c κs = (rows-listed (λ p. not (power? 7 p)) 71 72 (omega arith), rows-rising (λ p. not (power? 7 p)) 71)
 
 returns : tie.Need-returns
 unfolding dataBlock rowsWhere power?
-returns c = of-shape (c .before .before .enum-told .given .1) (one (c .before .before) .args .list .now) _ (c .place .ensures)
+returns c = of-shape (c .before .before .enum-told .given .1) (one (c .before .before) .args .list .now) _ (c .spread .ensures)
 
 returns-2 : tie.Need-returns-2
 unfolding dataBlock rowsWhere power?
-returns-2 c = of-shape (c .before .before .enum-told2 .given .1) (two (c .before .before) .args .list .now) _ (c .place2 .ensures)
+returns-2 c = of-shape (c .before .before .enum-told2 .given .1) (two (c .before .before) .args .list .now) _ (c .spread2 .ensures)
 
-pub place-data-spec : {M : Type 1} → statement M
-place-data-spec =
+pub spread-data-spec : {M : Type 1} → statement M
+spread-data-spec =
     tie.close
     (tie.spec
     enum-told
-    slice-aggregate-place
-    place-requires
+    slice-aggregate-spread
+    spread-requires
     enum-told-2
-    slice-aggregate-place-2
-    place-requires-2
+    slice-aggregate-spread-2
+    spread-requires-2
     returns
     returns-2)
