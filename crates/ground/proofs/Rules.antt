@@ -85,6 +85,7 @@ pub ruled : (rules : List Rule) (number : ℕ) → T (distinct? rules) → First
 ruled rules number t first =
     record {
       exactly = λ earlier later rule e.
-          given-for earlier later rule number (subst (λ (l : List Rule). T (distinct? l)) (sym e) t) (subst (λ (l : List Rule). FirstOf l number) (sym e) first);
+          given-for earlier later rule number (subst (λ (l : List Rule). T (distinct? l)) (sym e) t)
+          (subst (λ (l : List Rule). FirstOf l number) (sym e) first);
       accepted = none-given rules number t first;
     }

@@ -1,4 +1,5 @@
--- `block::coding::spread` meets its contract. The loop's invariant: the words passed are in their rows; those that are missing are zero already. Assumes nothing.
+-- `block::coding::spread` meets its contract. The loop's invariant: the words passed are in their rows, and zero stands elsewhere.
+-- Assumes nothing.
 use Prim.Native.Nat.{ℕ, _≤_, _<_, _-_}
 use mathlib.Core.List.{List}
 use mathlib.Core.Path.{_≡_, refl, sym, ap, _∙_}
