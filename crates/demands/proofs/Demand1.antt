@@ -39,7 +39,7 @@ module _ (rules : List Rule) (number : ℕ) (inner : Answer) (plain : answerNumb
   refusing new lent =
       record {
         ruled = rw counted (ruled rules number t first);
-        bare = λ ne. rw (answered-refused number inner (refused ne)) (refl, refl);
+        bare = λ ne. rw (answered-refused number inner (refused ne)) refl;
         unchanged = λ ne. refused-kept number new lent (refused ne);
       }
 

@@ -5,10 +5,11 @@ use mathlib.Core.Path.{_≡_}
 use mathlib.Core.List.{List, _++_}
 use lib.ListN.{length}
 use Rattle.ground.specs.Rules.{Rule, Ruled}
+use Rattle.block.specs.Verdict.{noVerdict}
 use Rattle.layout.specs.declared.Layout.{Layout}
 use Rattle.layout.specs.Reason.{imageRules, blockRules}
 use Rattle.store.specs.declared.Answer.{Answer}
-use Rattle.store.specs.Answer.{answerNumber, answerVerdict, answerCount}
+use Rattle.store.specs.Answer.{answerNumber, answerWords}
 use Rattle.store.specs.Fresh.{freshAfter}
 use Rattle.store.specs.Reason.{dataRules}
 use Rattle.store.specs.Write.{writeAnswer, writeAfter}
@@ -25,7 +26,7 @@ use Rattle.patrol.specs.Reason.{askRules, turnRules}
 -- a call on an image that goes by a list of rules, with what was lent to it and what is left there
 pub record Refusing (rules : List Rule) (answer : Answer) (lent left : List ℕ) : Type 1 where
   pub ruled : Ruled rules (answerNumber answer)
-  pub bare : (answerNumber answer ≡ 0 → ⊥) → (answerVerdict answer ≡ 0) × (answerCount answer ≡ 0)
+  pub bare : (answerNumber answer ≡ 0 → ⊥) → answerWords answer ≡ noVerdict
   pub unchanged : (answerNumber answer ≡ 0 → ⊥) → left ≡ lent
 
 -- the patrol's calls: a refused one hands back the record that it got, or, if it got none, one of zeros

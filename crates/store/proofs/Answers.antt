@@ -1,12 +1,11 @@
--- The specification's number, verdict and count tell the answers apart. Assumes nothing.
+-- The specification's number, and the words of verdict and count, tell the answers apart. Assumes nothing.
 use Prim.Native.Nat.{ℕ, zero, suc}
 use mathlib.Core.Path.{_≡_, refl, sym, ap}
-use mathlib.Core.List.{[], _∷_}
 use native.Mathlib.Omega.{arith}
-use Rattle.block.proofs.Verdicts.{verdict-some, verdicts-apart}
+use Rattle.block.proofs.Verdicts.{verdict-words-some, verdict-words-apart}
 use Rattle.store.specs.declared.Answer.{Answer}
 use Rattle.store.specs.declared.Answer.the-variants.{Refused, Stored, Found}
-use Rattle.store.specs.Answer.{answerNumber, answerVerdict, answerCount, answerWords, answered}
+use Rattle.store.specs.Answer.{answerNumber, answerWords, answered}
 
 -- a refusal has a number that is not 0
 abbrev pub Proper : Answer → Type 0
@@ -14,20 +13,16 @@ Proper (Refused number) = number ≡ 0 → ⊥
 Proper Stored = Unit {0}
 Proper (Found verdict) = Unit {0}
 
-pub answers-apart : (a b : Answer) → Proper a → Proper b
-    → answerNumber a ≡ answerNumber b
-    → answerVerdict a ≡ answerVerdict b
-    → answerCount a ≡ answerCount b
-    → a ≡ b
-answers-apart (Refused m) (Refused n) p q e v c = ap Refused e
-answers-apart (Refused m) Stored p q e v c = absurd (p e)
-answers-apart (Refused m) (Found w) p q e v c = absurd (p e)
-answers-apart Stored (Refused n) p q e v c = absurd (q (omega arith))
-answers-apart Stored Stored p q e v c = refl
-answers-apart Stored (Found w) p q e v c = absurd (verdict-some w (sym v))
-answers-apart (Found u) (Refused n) p q e v c = absurd (q (omega arith))
-answers-apart (Found u) Stored p q e v c = absurd (verdict-some u v)
-answers-apart (Found u) (Found w) p q e v c = ap Found (verdicts-apart u w v c)
+pub answers-apart : (a b : Answer) → Proper a → Proper b → answerNumber a ≡ answerNumber b → answerWords a ≡ answerWords b → a ≡ b
+answers-apart (Refused m) (Refused n) p q e w = ap Refused e
+answers-apart (Refused m) Stored p q e w = absurd (p e)
+answers-apart (Refused m) (Found v) p q e w = absurd (p e)
+answers-apart Stored (Refused n) p q e w = absurd (q (omega arith))
+answers-apart Stored Stored p q e w = refl
+answers-apart Stored (Found v) p q e w = absurd (verdict-words-some v (sym w))
+answers-apart (Found u) (Refused n) p q e w = absurd (q (omega arith))
+answers-apart (Found u) Stored p q e w = absurd (verdict-words-some u w)
+answers-apart (Found u) (Found v) p q e w = ap Found (verdict-words-apart u v w)
 
 -- ---- a call that is refused: its number is the answer
 
@@ -38,9 +33,3 @@ answered-refused (suc number) answer ne = refl
 pub answered-number : (number : ℕ) (answer : Answer) → answerNumber answer ≡ 0 → answerNumber (answered number answer) ≡ number
 answered-number zero answer e = e
 answered-number (suc number) answer e = refl
-
--- an answer's words are its verdict and its count
-pub answer-words : (answer : Answer) → answerWords answer ≡ answerVerdict answer ∷ answerCount answer ∷ []
-answer-words (Refused number) = refl
-answer-words Stored = refl
-answer-words (Found verdict) = refl
