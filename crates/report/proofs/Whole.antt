@@ -58,12 +58,12 @@ refusal-short : (number : ℕ) → number < 100 → Short (refusalLine number) 1
 unfolding refusalLine
 refusal-short number h = named-short "refused " 1 number h and one-end
 
-image-short : (shape s g n : ℕ) → shape < 10000 → s < 10000 → g < 10000 → n < 10000 → Short (imageLine shape s g n) 57
+image-short : (layout : Layout) (n : ℕ) → layout .shape < 10000 → layout .s < 10000 → layout .g < 10000 → n < 10000 → Short (imageLine layout n) 57
 unfolding imageLine
-image-short shape s g n hshape hs hg hn =
-    named-short "image shape " 3 shape hshape
-    and named-short " interleave " 3 s hs
-    and named-short " groups " 3 g hg
+image-short layout n hshape hs hg hn =
+    named-short "image shape " 3 (layout .shape) hshape
+    and named-short " interleave " 3 (layout .s) hs
+    and named-short " groups " 3 (layout .g) hg
     and named-short " blocks " 3 n hn
     and one-end
 
@@ -111,12 +111,12 @@ report-short image layout ok few =
     let known : layout .shape ≤ 2 = ⊎-elim (λ e. omega arith) (λ e. omega arith) (ok .shape-known) in
     let groups : layout .g ≤ n = omega (arith, mul-le-mul-left (layout .g) (ok .s-first)) in
     let total = totalLine (tallyBelow image layout n) in
-    let first = imageLine (layout .shape) (layout .s) (layout .g) n in
+    let first = imageLine layout n in
     let rest = blockLines image layout n ++ total ∷ [] in
     omega (
       arith,
       length-append first (endToEnd rest),
-      image-short (layout .shape) (layout .s) (layout .g) n (omega arith) (omega (arith, ok .s-last)) (omega arith) (omega arith) .few,
+      image-short layout n (omega arith) (omega (arith, ok .s-last)) (omega arith) (omega arith) .few,
       end-to-end-last (blockLines image layout n) total,
       blocks-short image layout n (omega arith),
       total-short n (tallyBelow image layout n) (omega arith) (tally-within image layout n) .few,

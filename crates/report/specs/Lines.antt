@@ -6,14 +6,16 @@ use mathlib.Core.List.{List, _++_}
 use Rattle.block.specs.declared.Verdict.{Verdict}
 use Rattle.block.specs.declared.Verdict.the-variants.{Clean, Mended, Lost}
 use Rattle.block.specs.Verdict.{verdictCount}
+use Rattle.layout.specs.declared.Layout.{Layout}
 use Rattle.report.specs.declared.Tally.{Tally}
 use Rattle.text.specs.Text.{named, lineEnd}
 
 unfoldable pub refusalLine : ℕ → List ℕ
 refusalLine number = named "refused " number ++ lineEnd
 
-unfoldable pub imageLine : ℕ → ℕ → ℕ → ℕ → List ℕ
-imageLine shape s g blocks = named "image shape " shape ++ named " interleave " s ++ named " groups " g ++ named " blocks " blocks ++ lineEnd
+unfoldable pub imageLine : Layout → ℕ → List ℕ
+imageLine layout blocks =
+    named "image shape " (layout .shape) ++ named " interleave " (layout .s) ++ named " groups " (layout .g) ++ named " blocks " blocks ++ lineEnd
 
 abbrev pub verdictName : Verdict → String
 verdictName Clean = " clean "

@@ -42,7 +42,7 @@ tallyBelow image layout (suc n) = counted (verdictAt image layout n) (tallyBelow
 
 unfoldable pub imageReport : List ℕ → Layout → List (List ℕ)
 imageReport image layout =
-    imageLine (layout .shape) (layout .s) (layout .g) (blocks layout)
+    imageLine layout (blocks layout)
     ∷ blockLines image layout (blocks layout)
     ++ totalLine (tallyBelow image layout (blocks layout))
     ∷ []

@@ -7,6 +7,7 @@ ghost use Rattle.block.specs.Verdict.{verdictCount};
 ghost use Rattle.report.specs.Lines.{verdictName, refusalLine, imageLine, blockLine, totalLine};
 use super::Tally;
 use block::Verdict;
+use layout::Layout;
 use text::put_named;
 use text::put_text;
 
@@ -19,20 +20,13 @@ pub(crate) fn refusal_line(number: u32, out: &mut [u8], at: usize) -> usize
     put_text(&line[..n], out, at)
 }
 
-pub(crate) fn image_line(
-    shape: u32,
-    s: u32,
-    g: u32,
-    blocks: u32,
-    out: &mut [u8],
-    at: usize,
-) -> usize
-    ensures { λ r. ⌜ page (now (out .exit)) r ≡ written (imageLine shape s g blocks) (page (now (out .entry)) at) ⌝ }
+pub(crate) fn image_line(layout: Layout, blocks: u32, out: &mut [u8], at: usize) -> usize
+    ensures { λ r. ⌜ page (now (out .exit)) r ≡ written (imageLine layout blocks) (page (now (out .entry)) at) ⌝ }
 {
     let mut line = [0u8; 96];
-    let after_shape = put_named(b"image shape ", shape, &mut line, 0);
-    let after_s = put_named(b" interleave ", s, &mut line, after_shape);
-    let after_g = put_named(b" groups ", g, &mut line, after_s);
+    let after_shape = put_named(b"image shape ", layout.shape, &mut line, 0);
+    let after_s = put_named(b" interleave ", layout.s, &mut line, after_shape);
+    let after_g = put_named(b" groups ", layout.g, &mut line, after_s);
     let end = put_named(b" blocks ", blocks, &mut line, after_g);
     let n = put_text(b"\n", &mut line, end);
     put_text(&line[..n], out, at)

@@ -47,7 +47,7 @@ fn report_image(image: &mut [u32], layout: Layout, out: &mut [u8]) -> usize
     ensures leaves { λ r. ⌜ now (image .exit) ≡ visitedBelow (now (image .entry)) layout (blocks layout) ⌝ }
 {
     let n = layout.blocks() as u32;
-    let mut at = image_line(layout.shape, layout.s, layout.g, n, out, 0);
+    let mut at = image_line(layout, n, out, 0);
     let mut tally = Tally {
         clean: 0,
         mended: 0,

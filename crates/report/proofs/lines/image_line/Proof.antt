@@ -26,13 +26,13 @@ module _ (c : tie.After-put-text) where
   start = after-shape .before .before .before .before
 
   -- the line as it is put together
-  whole : let a = start .args in Line 96 81 (imageLine (a .shape) (a .s) (a .g) (a .blocks)) (c .put-text .last .1 .0) (c .put-text .result)
+  whole : let a = start .args in Line 96 81 (imageLine (a .layout) (a .blocks)) (c .put-text .last .1 .0) (c .put-text .result)
   unfolding imageLine
   whole =
       let a = start .args in
-      let shape = with-named (empty (replicate 96 0)) "image shape " (a .shape) (after-shape .put-named .ensures) (start .fits .shape) (omega arith) in
-      let s = with-named shape " interleave " (a .s) (after-s .put-named2 .ensures) (start .fits .s) (omega arith) in
-      let g = with-named s " groups " (a .g) (after-g .put-named3 .ensures) (start .fits .g) (omega arith) in
+      let shape = with-named (empty (replicate 96 0)) "image shape " (a .layout .shape) (after-shape .put-named .ensures) (search needs) (omega arith) in
+      let s = with-named shape " interleave " (a .layout .s) (after-s .put-named2 .ensures) (search needs) (omega arith) in
+      let g = with-named s " groups " (a .layout .g) (after-g .put-named3 .ensures) (search needs) (omega arith) in
       let blocks = with-named g " blocks " (a .blocks) (end .put-named4 .ensures) (start .fits .blocks) (omega arith) in
       with-text blocks lineEnd (c .put-text .ensures) (omega arith)
 

@@ -169,7 +169,7 @@ same-length c = ended c .before .loop .inv .4
 same-length-2 : tie.Need-same-length-2 Inv-loop μ-loop
 same-length-2 c =
     let at = ended c .before in
-    c .before .before .total-line .kept .1 .0 ∙ at .loop .inv .5 ∙ at .before .before .before .image-line .kept .1 .1 .1 .1 .0
+    c .before .before .total-line .kept .1 .0 ∙ at .loop .inv .5 ∙ at .before .before .before .image-line .kept .1 .1 .0
 
 returns : tie.Need-returns Inv-loop μ-loop
 unfolding imageReport writtenAll
@@ -178,7 +178,7 @@ returns c =
     let s = start at in
     let all : at .loop .k ≡ many s = omega (arith, ended c .loop-test .left, known at .blocks2 .ensures) in
     let layout = s .args .layout in
-    let first = ap (λ (n : ℕ). written (imageLine (layout .shape) (layout .s) (layout .g) n) (page (s .args .out .now) 0)) (known at .blocks2 .ensures) in (
+    let first = ap (λ (n : ℕ). written (imageLine layout n) (page (s .args .out .now) 0)) (known at .blocks2 .ensures) in (
       c .before .before .total-line .ensures
           ∙ ap₂ written (ap totalLine (at .loop .inv .3 ∙ ap (tallies s) all))
           (at .loop .inv .2 ∙ ap₂ writtenAll (ap (lines s) all) (at .before .before .before .image-line .ensures ∙ first))
