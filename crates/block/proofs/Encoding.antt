@@ -1,9 +1,9 @@
 -- Setting the check rows by the words of the sums makes the valid block for the data. Assumes nothing.
 use Prim.Native.Nat.{ℕ, zero, suc, _-_, _^_, _≤_, _<_}
-use mathlib.Core.Bool.{Bool, true, false, cond, _&&_}
+use mathlib.Core.Bool.{Bool, false, cond, _&&_, and-true, and-false}
 use mathlib.Core.Path.{_≡_, refl, sym, ap, ap₂, _∙_}
 use mathlib.Core.List.{List, [], _∷_}
-use mathlib.Core.Logic.{_⊎_, ⊎-elim, by-cases}
+use mathlib.Core.Logic.{⊎-elim, by-cases}
 use native.Mathlib.Decide.{ℕ-discrete}
 use native.Mathlib.Nat.{le-refl}
 use native.Mathlib.Omega.{arith}
@@ -135,10 +135,6 @@ module _ (shape : Shape) (list : List ℕ) (words-fit : (k : ℕ) → getD list 
 
   not-last : (j : ℕ) → (j ≡ m → ⊥) → (b : Bool) → b && eqb (suc j) (rows shape) ≡ false
   not-last j ne b = ap (λ (x : Bool). b && x) (ne-eqb (suc j) (rows shape) (λ e. ne (omega arith))) ∙ and-false b
-    where
-      and-false : (a : Bool) → a && false ≡ false
-      and-false true = refl
-      and-false false = refl
 
   zero-lane : (j : ℕ) → (DataRow m (suc j) → ⊥) → (i : ℕ) → lane i dataRows (suc j) ≡ false
   zero-lane j ne i = ap (bit i) (data-miss shape list j ne) ∙ bit-zero i
@@ -152,10 +148,6 @@ module _ (shape : Shape) (list : List ℕ) (words-fit : (k : ℕ) → getD list 
       (ap₂ _⊕_
       (ap₂ _⊕_ (zero-lane m (λ d. let l = d .last in omega arith) i) (named-off (digits shape) (sumOf i) (rows shape) (last-no-power shape)))
       (ap (λ (x : Bool). odd (rows shape) (summed (digits shape) m (lane i dataRows)) && x) (eq-eqb (rows shape) (rows shape) refl) ∙ and-true _)))
-    where
-      and-true : (a : Bool) → a && true ≡ a
-      and-true true = refl
-      and-true false = refl
 
   pub check-row : (l j : ℕ) → l < digits shape → suc j ≡ 2 ^ l → (j ≡ m → ⊥) → digitWord l ≡ word (coded j)
   check-row l j h e ne =

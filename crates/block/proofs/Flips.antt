@@ -1,6 +1,6 @@
 -- Flipping the row that a lane's sum names, lane by lane, lowest set lane first. Assumes nothing.
 use Prim.Native.Nat.{ℕ, zero, suc, _-_, _*_, _/_, _%_, _^_, _≤_, _<_}
-use mathlib.Core.Bool.{Bool, true, false, not, _&&_}
+use mathlib.Core.Bool.{Bool, true, false, not, _&&_, and-true, and-false}
 use mathlib.Core.Path.{_≡_, refl, sym, ap, _∙_}
 use mathlib.Core.List.{List}
 use mathlib.Core.Logic.{by-cases}
@@ -53,10 +53,6 @@ clear-less w i h l e =
     bit-and k w (2 ^ i)
     ∙ by-cases (ℕ-discrete k i) (λ q. rw q (ap (λ (x : Bool). x && bit i (2 ^ i)) e)) (λ ne. rw (power-apart k i ne) (and-false (bit k w)))) in
     omega (arith, xor-add-and w (2 ^ i), pow-pos i)
-  where
-    and-false : (b : Bool) → b && false ≡ false
-    and-false true = refl
-    and-false false = refl
 
 -- ---- one lane more
 
@@ -147,10 +143,6 @@ module _ (last : ℕ) (digits block : List ℕ) (parity : ℕ) where
 
   pub all-done : doneBut 0 ≡ flippedIn last digits (λ k. bit k parity) block
   all-done = flipped-same last digits block _ _ (λ i l. rw (bit-zero i) (and-true (bit i parity)))
-    where
-      and-true : (b : Bool) → b && true ≡ b
-      and-true true = refl
-      and-true false = refl
 
   module _ (left i : ℕ) (hi : i < 32) (on : bit i left ≡ true) (within : (k : ℕ) → bit k left ≡ true → bit k parity ≡ true) where
     pub next-within : (k : ℕ) → bit k (bitXor left (2 ^ i)) ≡ true → bit k parity ≡ true

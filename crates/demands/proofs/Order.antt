@@ -1,7 +1,7 @@
 -- Demand 3, a and b: the turns and the asks of the store are those of its rota. Assumes nothing.
 use Prim.Native.Nat.{ℕ, _+_, _≤_, _<_}
 use mathlib.Core.Path.{_≡_, refl, sym, ap, ap₂, _∙_}
-use mathlib.Core.List.{List, [], _∷_, _++_}
+use mathlib.Core.List.{List, [], _∷_, _++_, append-nil}
 use native.Mathlib.Nat.{one-le-mul}
 use lib.ListN.{length}
 use Rattle.layout.specs.declared.Layout.{Layout}
@@ -24,11 +24,11 @@ use Rattle.patrol.specs.Ask.{asked}
 use Rattle.patrol.specs.Format.{formatted}
 use Rattle.patrol.specs.Numbers.{reportNumber}
 use Rattle.patrol.specs.Turn.{reported, turnedNow, turned}
-use Rattle.demands.specs.Steps.{Step, ask, turn, fresh, stepAfter, report, turns}
+use Rattle.demands.specs.Steps.{Step, ask, turn, fresh, after, stepAfter, report, turns}
 use Rattle.demands.specs.Demand3.{PatrolVisits, AskVisits, store, TurnsAccepted, EveryBlockVisited, AskServed}
 use Rattle.demands.proofs.Lasting.{fresh-size}
 use Rattle.demands.proofs.Refused.{given-formatted}
-use Rattle.demands.proofs.Parts.{Part, allParts, parts-append, parts-turns, whole-step}
+use Rattle.demands.proofs.Parts.{Part, allParts, parts-append, parts-turns, part-of, turn-step}
 use Rattle.demands.proofs.Simulated.{OfStore, run-stays, run-rota}
 
 -- ---- what a turn reports of the blocks that are due
@@ -121,11 +121,14 @@ module _ (image : List ℕ) (layout : Layout) (fits : imageRefusal (length image
       let state = store image layout before in
       let long : blocks layout ≤ rotaTurns (allParts during state) = rw (parts-turns during state) h in
       let found = round-complete (blocks layout) some-blocks (partsOf image layout before) (allParts during state) long block inside in
-      let at = whole-step rotaTurn turn refl during state (found .0) (found .1) (found .2) in (
+      let at = part-of during state (found .0) rotaTurn (found .1) (found .2) in
+      let is = turn-step (at .step) (after (at .front) state) (at .early) (at .late) (at .is-part) in
+      let passed : found .0 ≡ allParts (at .front) state =
+      at .front-is ∙ ap (λ (l : List Part). allParts (at .front) state ++ l) (is .1) ∙ append-nil (allParts (at .front) state) in (
         at .front,
         at .tail,
-        at .split,
-        names (before ++ at .front) block (rw (parts-append before (at .front) (fresh image layout), at .front-is) (found .3)),
+        at .split ∙ ap (λ (step : Step). at .front ++ step ∷ at .tail) (is .0),
+        names (before ++ at .front) block (rw (parts-append before (at .front) (fresh image layout), ← passed) (found .3)),
       )
 
   -- ---- b

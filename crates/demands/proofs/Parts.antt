@@ -156,12 +156,34 @@ part-of (step ∷ steps) state before part rest e =
     })
     (split-append (parts step state) (allParts steps (stepAfter step state)) before part rest e)
 
+-- ---- a part that is a turn
+
+-- among others there is one at least
+some-turns : (early late : List Part) → rotaTurns (early ++ rotaTurn ∷ late) ≡ rotaTurns early + suc (rotaTurns late)
+unfolding rotaTurns
+some-turns early late = turns-append early (rotaTurn ∷ late)
+
+-- the step that has it is a turn, and nothing of that step comes before it
+pub turn-step : (step : Step) (state : State) (early late : List Part) → parts step state ≡ early ++ rotaTurn ∷ late → (step ≡ turn) × (early ≡ [])
+turn-step step state early late e = by step (step-turns step state 0) e
+  where
+    none : {A : Type 0} (turned : ℕ) → turned + 0 ≡ 0 → turned ≡ rotaTurns (early ++ rotaTurn ∷ late) → A
+    none turned z e = absurd (omega (arith, some-turns early late))
+
+    by : (step : Step) → rotaTurns (parts step state) + 0 ≡ tick step 0 → parts step state ≡ early ++ rotaTurn ∷ late → (step ≡ turn) × (early ≡ [])
+    by (write layout block list) z e = none _ z (ap rotaTurns e)
+    by (read layout block buffer) z e = none _ z (ap rotaTurns e)
+    by (visit layout block) z e = none _ z (ap rotaTurns e)
+    by (ask block) z e = none _ z (ap rotaTurns e)
+    by turn z e = (refl, split-one rotaTurn early rotaTurn late e .1)
+    by (flip at bit) z e = none _ z (ap rotaTurns e)
+
 -- ---- a part that makes a step by itself
 
--- the step that it makes, if it makes one
+-- the step that it makes, if it makes one; a turn may be one of several of a step
 abbrev pub madeBy : Part → List Step
 madeBy (asks block) = ask block ∷ []
-madeBy rotaTurn = turn ∷ []
+madeBy rotaTurn = []
 madeBy (other (writes block list)) = []
 madeBy (other (reads block)) = []
 madeBy (other (visits block)) = []
@@ -205,7 +227,7 @@ module _ (part : Part) (step : Step) (makes : madeBy part ≡ step ∷ []) where
   alone (visit layout block) state early late e =
       not-quiet (call-quiet (answers (visit layout block) state) (visits block ∷ []) (refl, tt) early part late e)
   alone (ask block) state early late e = only-one (asks block) (ask block) refl early late e
-  alone turn state early late e = only-one rotaTurn turn refl early late e
+  alone turn state early late e = not-quiet (sym (ap madeBy (split-one rotaTurn early part late e .0)))
   alone (flip at bit) state early late e = only-one (other (flips (at, bit))) (flip at bit) refl early late e
 
   -- so a list of steps is split at that step

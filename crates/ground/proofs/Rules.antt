@@ -1,10 +1,10 @@
--- The first of a list of rules that applies: it is one, and each number is given-for exactly when its reason holds and no earlier one does.
+-- The first of a list of rules that applies: it is one, and each number is given exactly when its reason holds and no earlier one does.
 -- Assumes nothing.
 use Prim.Native.Nat.{ℕ}
 use mathlib.Core.Bool.{Bool, true, not, _&&_}
 use mathlib.Core.Path.{_≡_, sym, subst, _∙_}
 use mathlib.Core.List.{List, [], _∷_, _++_}
-use mathlib.Core.Logic.{_⊎_, ⊎-elim, _↔_}
+use mathlib.Core.Logic.{⊎-elim, _↔_}
 use lib.Dec.{T, eqb}
 use borrow.Author.Tests.{eq-eqb}
 use Rattle.ground.specs.Rules.{Rule, FirstOf, NoneOf, GivenFor, Ruled}
@@ -25,7 +25,7 @@ distinct? (rule ∷ rules) = not (eqb 0 (rule .number)) && (unused? (rule .numbe
 other : (k n : ℕ) → T (not (eqb k n)) → n ≡ k → ⊥
 other k n t e = subst (λ (b : Bool). T (not b)) (eq-eqb k n (sym e)) t
 
--- a number that no rule has is not given-for
+-- a number that no rule has is not given
 not-given : (rules : List Rule) (k n : ℕ) → T (not (eqb 0 k)) → T (unused? k rules) → FirstOf rules n → n ≡ k → ⊥
 not-given [] k n some t first e = other 0 k some (sym e ∙ first)
 not-given (rule ∷ rules) k n some t first e =

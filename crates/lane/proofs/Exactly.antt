@@ -1,8 +1,8 @@
 -- For each choice of the data rows there is exactly one valid lane. Assumes nothing.
 use Prim.Native.Nat.{ℕ, zero, suc, _+_, _^_, _≤_, _<_}
-use mathlib.Core.Bool.{Bool, true, false, _&&_, true≢false}
+use mathlib.Core.Bool.{Bool, true, false, _&&_, true≢false, and-true, and-false}
 use mathlib.Core.Path.{_≡_, refl, sym, ap, ap₂, _∙_}
-use mathlib.Core.Logic.{⊎-elim, _⊎_}
+use mathlib.Core.Logic.{⊎-elim}
 use native.Mathlib.Nat.{eq-or-lt-of-le, le-of-suc-le-suc, le-refl}
 use native.Mathlib.Omega.{arith}
 use lib.Bits.{bitXor, xor-self, xor-lt}
@@ -19,14 +19,6 @@ use Rattle.lane.proofs.Distance.{⊕-same}
 use Rattle.lane.proofs.Decided.{only-within}
 use Rattle.lane.proofs.Mended.{⊕-self, sum-empty, count-empty}
 use Rattle.lane.proofs.Rows.{either, split-below, power-digit, power-other, power-apart}
-
-and-false : (a : Bool) → a && false ≡ false
-and-false true = refl
-and-false false = refl
-
-and-true : (a : Bool) → a && true ≡ a
-and-true true = refl
-and-true false = refl
 
 twice : (a b : Bool) → a ⊕ (b ⊕ (a ⊕ b)) ≡ false
 twice true true = refl

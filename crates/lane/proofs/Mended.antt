@@ -69,15 +69,6 @@ module _ (m : ℕ) (f : Lane) where
   pub mended-near : lost? (decide m f) ≡ false → apart m f (mended m f) ≤ 1
   mended-near ok = rw (mended-count ok) (pick-one (odd (suc m) f))
 
-  -- a lost lane is left as it was
-  left : (d : Decision) → lost? d ≡ true → (p : ℕ) → changes d p ≡ false
-  left unchanged e p = refl
-  left lost e p = refl
-  left (flipped r) e p = absurd (true≢false (sym e))
-
-  pub lost-left : lost? (decide m f) ≡ true → (p : ℕ) → mended m f p ≡ f p
-  lost-left e p = ap (λ (b : Bool). f p ⊕ b) (left (decide m f) e p) ∙ ⊕-zero (f p)
-
   module _ (g : Lane) (v : Valid m g) (h : apart m f g ≤ 1) where
     by-near : (d : Decision) → Right m f d → lost? d ≡ false
     by-near unchanged r = refl

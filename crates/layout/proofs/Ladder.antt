@@ -9,7 +9,6 @@ use native.Mathlib.Nat.{zero-mul, suc-mul, lt-of-not-le}
 use native.Mathlib.Omega.{arith}
 use borrow.Author.Tests.{eq-eqb, ne-eqb, eqb-false, eqb-true, ltb-false, ltb-true, leb-false, leb-true, lt-leb, not-false, not-true}
 use lib.Dec.{ltb, leb, eqb}
-use Rattle.ground.specs.Ladder.{_then_}
 use Rattle.ground.specs.Rules.{FirstOf}
 use Rattle.ground.proofs.Ladder.{Rung, rung-test, rung-tests, rung-passed, then-assoc, then-zero, first-more, not-zero, not-above, not-other}
 use Rattle.layout.specs.declared.Layout.{Layout}

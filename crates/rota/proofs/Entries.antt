@@ -55,7 +55,7 @@ module _ (n : ℕ) (r : Rota) (ok : unbroken n r ≡ true) where
   pub line-fit : Fit places n (r .line)
   line-fit = sound-fit places n (r .line) (parts .1)
 
-  pub plan-fit : Sound n (planOf r)
+  pub plan-fit : Sound places n (planOf r)
   plan-fit =
       record {
         inside = next-inside;

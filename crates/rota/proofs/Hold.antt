@@ -8,6 +8,7 @@ use native.Mathlib.Decide.{ℕ-discrete}
 use native.Mathlib.Omega.{arith}
 use lib.Dec.{eqb}
 use borrow.Author.Tests.{eq-eqb, ne-eqb}
+use Rattle.rota.specs.Line.{places}
 use Rattle.rota.specs.Plan.{Plan, start}
 use Rattle.rota.specs.Turning.{onward, dueOf, due}
 use Rattle.rota.specs.Record.{fresh, rotaOf, rotaTurned}
@@ -102,7 +103,7 @@ module _ {n : ℕ} (M : Memory n) where
 
   -- ---- a step
 
-  module _ (done : List (StepOf M)) (p : Plan) (w : ℕ → M .Data) (m : M .State) (s : Sound n p) (good : M .Good m) (h : Held (Hurt done (p .next)) w m) where
+  module _ (done : List (StepOf M)) (p : Plan) (w : ℕ → M .Data) (m : M .State) (s : Sound places n p) (good : M .Good m) (h : Held (Hurt done (p .next)) w m) where
     quiet : (x : StepOf M) → tick x 0 ≡ 0 → Held (Hurt (done ++ x ∷ []) (p .next)) w m
     quiet x z u l = kept-map (λ i o. o) (λ q. aged done (p .next) (p .next) (q .wait) x u q (omega arith) (q .off)) (h u l)
 
@@ -158,7 +159,7 @@ module _ {n : ℕ} (M : Memory n) where
 
     after-step : (x : StepOf M) → Spaced M (done ++ x ∷ [])
         → Held (Hurt (done ++ x ∷ []) (planStep n x p .next)) (λ c. meant c (w c) x) (memoryStep M x (rotaOf p) m)
-    after-step (ask b) sp = rw (ask-adds n p b .2) (quiet (ask b) refl)
+    after-step (ask b) sp = rw (ask-adds places n p b .2) (quiet (ask b) refl)
     after-step turn sp = rw (turned-is n p s) (after-turn (p .asks))
     after-step (other x) sp = after-touch x sp
 
@@ -168,7 +169,7 @@ module _ {n : ℕ} (M : Memory n) where
   spaced-front l k sp pre mid post f g e =
       sp pre mid (post ++ k) f g (ap (λ (x : List (StepOf M)). x ++ k) e ∙ append-assoc (pre ++ other (flip f) ∷ mid) (other (flip g) ∷ post) k)
 
-  held-run : (rest done : List (StepOf M)) (p : Plan) (w : ℕ → M .Data) (m : M .State) → Sound n p → M .Good m → Held (Hurt done (p .next)) w m
+  held-run : (rest done : List (StepOf M)) (p : Plan) (w : ℕ → M .Data) (m : M .State) → Sound places n p → M .Good m → Held (Hurt done (p .next)) w m
       → Spaced M (done ++ rest) → Held (Hurt (done ++ rest) (planRun n rest p .next)) (λ c. lastWritten c (w c) rest) (memoryRun M rest (rotaOf p) m)
   unfolding planRun memoryRun lastWritten
   held-run [] done p w m s g h sp = rw append-nil h
@@ -182,7 +183,7 @@ module _ {n : ℕ} (M : Memory n) where
 
   pub reads : 1 ≤ n → (l : List (StepOf M)) → Spaced M l → (b : ℕ) → b < n → M .read b (memoryAt M l) ≡ M .gives (lastWritten b (M .zeros) l)
   reads k l sp b h =
-      let held = held-run l [] start (λ c. M .zeros) (M .fresh) (start-sound n k) (M .fresh-good) (λ u i. inl (M .fresh-zeros u i)) sp in
+      let held = held-run l [] start (λ c. M .zeros) (M .fresh) (start-sound places n k) (M .fresh-good) (λ u i. inl (M .fresh-zeros u i)) sp in
       let good = run-good l fresh (M .fresh) (M .fresh-good) in
       M .read-here b (memoryAt M l) (lastWritten b (M .zeros) l) good h
       (all-near (Hurt ([] ++ l) (planRun n l start .next)) (λ c. lastWritten c (M .zeros) l) (memoryAt M l) good held b h)

@@ -1,15 +1,15 @@
--- What holds of every list of steps from the fresh record, and over a fresh memory: every turn is accepted, n turns running visit
--- every block, an ask is served by the turn that its place says, and every read is right where flips are far enough apart.
--- Assumes nothing.
-use Prim.Native.Nat.{ℕ, zero, suc, _+_, _-_, _≤_, _<_}
+-- What holds of every list of steps from the fresh record, and over a fresh memory: n turns running visit every block, an ask is
+-- served by the turn that its place says, and every read is right where flips are far enough apart. Assumes nothing.
+use Prim.Native.Nat.{ℕ, _+_, _≤_, _<_}
 use mathlib.Core.Path.{_≡_, refl, ap, _∙_}
 use mathlib.Core.List.{List, [], _∷_, _++_, append-assoc}
 use native.Mathlib.Omega.{arith}
+use Rattle.rota.specs.Line.{places}
 use Rattle.rota.specs.Plan.{Plan, start}
 use Rattle.rota.specs.Asking.{askRefusal, askPlace}
 use Rattle.rota.specs.Turning.{dueOf}
 use Rattle.rota.specs.Record.{rotaAsked}
-use Rattle.rota.specs.Numbers.{dueNumber, firstBlock}
+use Rattle.rota.specs.Numbers.{firstBlock}
 use Rattle.rota.specs.Steps.{Step, ask, turn, other, turns, rotaAt, dueAt}
 use Rattle.rota.specs.Touches.{read, flip, lastWritten}
 use Rattle.rota.specs.Memory.{Memory}
@@ -17,35 +17,17 @@ use Rattle.rota.specs.Patrol.{StepOf, memoryAt, Spaced}
 use Rattle.rota.specs.declared.Place.the-variants.{Given}
 use Rattle.rota.specs.declared.Due.the-variants.{Two}
 use Rattle.rota.proofs.Plans.{ask-stands, askAfter}
-use Rattle.rota.proofs.Ranges.{ask-placed}
 use Rattle.rota.proofs.Runs.{asked-given, planRun, planAt, plan-append, plan-sound, rota-runs, due-runs}
 use Rattle.rota.proofs.Serve.{stands-first, stands-run}
 use Rattle.rota.proofs.Round.{away, reached}
 use Rattle.rota.proofs.Hold.{reads}
-
-due-accepted : (next : ℕ) (asks : List ℕ) → dueNumber (dueOf next asks) ≡ 0
-due-accepted next [] = refl
-due-accepted next (b ∷ asks) = refl
 
 due-first : (next : ℕ) (asks : List ℕ) → firstBlock (dueOf next asks) ≡ next
 due-first next [] = refl
 due-first next (b ∷ asks) = refl
 
 module _ {Other : Type 0} where
-  -- the turn after k others of a list
-  nth-turn : (l : List (Step Other)) (k : ℕ) → k < turns l → (before after : List (Step Other)) × (l ≡ before ++ turn ∷ after) × (turns before ≡ k)
-  unfolding turns
-  nth-turn [] k h = absurd (omega arith)
-  nth-turn (ask b ∷ l) k h = let r = nth-turn l k h in (ask b ∷ r .0, r .1, ap (λ x. ask b ∷ x) (r .2), r .3)
-  nth-turn (turn ∷ l) zero h = ([], l, refl, refl)
-  nth-turn (turn ∷ l) (suc k) h = let r = nth-turn l k (omega arith) in (turn ∷ r .0, r .1, ap (λ x. turn ∷ x) (r .2), ap suc (r .3))
-  nth-turn (other y ∷ l) k h = let r = nth-turn l k h in (other y ∷ r .0, r .1, ap (λ x. other y ∷ x) (r .2), r .3)
-
   module _ (n : ℕ) (some : 1 ≤ n) where
-    -- every turn is accepted
-    pub turn-accepted : (pre : List (Step Other)) → dueNumber (dueAt n pre) ≡ 0
-    turn-accepted pre = ap dueNumber (due-runs n some pre) ∙ due-accepted (planAt n pre .next) (planAt n pre .asks)
-
     -- in any n turns running every block is visited, whatever comes between
     pub round-complete : (pre mid : List (Step Other)) → n ≤ turns mid → (b : ℕ) → b < n
         → (before after : List (Step Other)) × (mid ≡ before ++ turn ∷ after) × (firstBlock (dueAt n (pre ++ before)) ≡ b)
@@ -63,27 +45,17 @@ module _ {Other : Type 0} where
         )
 
     module _ (pre : List (Step Other)) (b k : ℕ) (e : rotaAsked n (rotaAt n pre) b .place ≡ Given k) where
-      given : (askRefusal n (planAt n pre) b ≡ 0) × (askPlace (planAt n pre) b ≡ k)
+      given : (askRefusal places n (planAt n pre) b ≡ 0) × (askPlace (planAt n pre) b ≡ k)
       given = asked-given n (planAt n pre) (plan-sound n some pre) b k (rw (rota-runs n some pre) at e)
 
       -- an ask that is given the place k is served by the k-th turn after it, whatever comes between
       pub ask-served : (mid : List (Step Other)) → turns mid + 1 ≡ k → dueAt n (pre ++ ask b ∷ mid) ≡ Two (rotaAt n (pre ++ ask b ∷ mid) .next) b
       unfolding planRun
       ask-served mid t =
-          let p = planRun n mid (askAfter n (planAt n pre) b) in
+          let p = planRun n mid (askAfter places n (planAt n pre) b) in
           let a = plan-append n pre (ask b ∷ mid) start in
-          let s = stands-run n mid (askAfter n (planAt n pre) b) b (ask-stands n (planAt n pre) b (turns mid) (given .0) (omega (arith, given .1))) in
+          let s = stands-run n mid (askAfter places n (planAt n pre) b) b (ask-stands places n (planAt n pre) b (turns mid) (given .0) (omega (arith, given .1))) in
           rw (due-runs n some (pre ++ ask b ∷ mid), rota-runs n some (pre ++ ask b ∷ mid), a) (stands-first (p .next) s)
-
-      -- the same, of all the steps after the ask
-      pub ask-served-in : (mid : List (Step Other)) → k ≤ turns mid
-          → (before after : List (Step Other)) × (mid ≡ before ++ turn ∷ after) × (turns before + 1 ≡ k)
-          × (dueAt n (pre ++ ask b ∷ before) ≡ Two (rotaAt n (pre ++ ask b ∷ before) .next) b)
-      ask-served-in mid h =
-          let q = ask-placed n (rotaAt n pre) b k e in
-          let r = nth-turn mid (k - 1) (omega (arith, q .0)) in
-          let t : turns (r .0) + 1 ≡ k = omega (arith, r .3, q .0) in
-          (r .0, r .1, r .2, t, ask-served (r .0) t)
 
 module _ {n : ℕ} (M : Memory n) (some : 1 ≤ n) where
   -- if at least n turns lie between any two flips in one lane, every read gives what was last written, or zeros

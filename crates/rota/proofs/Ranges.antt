@@ -30,15 +30,15 @@ dues-inside n next (b ∷ asks) h e = (h, ltb-true b n (both (ltb b n) (below n 
 module _ (n : ℕ) (r : Rota) where
   pub ask-placed : (b k : ℕ) → rotaAsked n r b .place ≡ Given k → (1 ≤ k) × (k ≤ places)
   unfolding rotaAsked askNumber
-  ask-placed b k e = go (unbroken n r) refl (askRefusal n (planOf r) b) refl e
+  ask-placed b k e = go (unbroken n r) refl (askRefusal places n (planOf r) b) refl e
     where
-      go : (t : Bool) → unbroken n r ≡ t → (v : ℕ) → askRefusal n (planOf r) b ≡ v
+      go : (t : Bool) → unbroken n r ≡ t → (v : ℕ) → askRefusal places n (planOf r) b ≡ v
           → ifZero {A = RotaAsked} (5 when not t else v) (record { place = Given (askPlace (planOf r) b); rota = rotaOf (joined (planOf r) b) })
           (record { place = NoPlace (5 when not t else v); rota = r }) .place ≡ Given k
           → (1 ≤ k) × (k ≤ places)
       go true ok zero z e =
           let q : askPlace (planOf r) b ≡ k = cc in
-          rw (← q) (ask-place n (planOf r) b (plan-fit n r ok) z)
+          rw (← q) (ask-place places n (planOf r) b (plan-fit n r ok) z)
       go true ok (suc v) z e = let w : _≡_ {A = ℕ} 0 1 = cc in absurd (omega arith)
       go false ok v z e = let w : _≡_ {A = ℕ} 0 1 = cc in absurd (omega arith)
 

@@ -7,6 +7,7 @@ use mathlib.Core.Logic.{_⊎_, inl, inr, ⊎-elim}
 use native.Mathlib.Omega.{arith}
 use lib.Dec.{leb}
 use borrow.Author.Tests.{leb-true, leb-false}
+use Rattle.rota.specs.Line.{places}
 use Rattle.rota.specs.Plan.{Plan}
 use Rattle.rota.specs.Turning.{onward, movedOn}
 use Rattle.rota.specs.Steps.{Step, ask, turn, other, turns}
@@ -48,11 +49,11 @@ module _ {Other : Type 0} (n : ℕ) where
   unfolding planRun
   later x p l b r = record { before = x ∷ r .before; after = r .after; split = ap (λ (k : List (Step Other)). x ∷ k) (r .split); here = r .here }
 
-  pub reached : (l : List (Step Other)) (p : Plan) (b j : ℕ) → Sound n p → b < n → Away n (p .next) b j → j < turns l → Reached p l b
+  pub reached : (l : List (Step Other)) (p : Plan) (b j : ℕ) → Sound places n p → b < n → Away n (p .next) b j → j < turns l → Reached p l b
   unfolding planRun turns
   reached [] p b j s h a t = absurd (omega arith)
-  reached (ask c ∷ l) p b j s h a t = later (ask c) p l b (reached l (askAfter n p c) b j (ask-sound n p c s) h (rw (ask-adds n p c .2) a) t)
+  reached (ask c ∷ l) p b j s h a t = later (ask c) p l b (reached l (askAfter places n p c) b j (ask-sound places n p c s) h (rw (ask-adds places n p c .2) a) t)
   reached (turn ∷ l) p b zero s h a t = record { before = []; after = l; split = refl; here = away-zero n (p .next) b (s .inside) a }
   reached (turn ∷ l) p b (suc j) s h a t =
-      later turn p l b (reached l (movedOn n p) b j (turn-sound n p s) h (away-step n (p .next) b j (s .inside) h a) (omega arith))
+      later turn p l b (reached l (movedOn n p) b j (turn-sound places n p s) h (away-step n (p .next) b j (s .inside) h a) (omega arith))
   reached (other x ∷ l) p b j s h a t = later (other x) p l b (reached l p b j s h a t)

@@ -26,12 +26,12 @@ abbrev pub answerBy : Plan → ℕ → ℕ → RotaAsked
 answerBy p b number =
     ifZero number (record { place = Given (askPlace p b); rota = rotaOf (joined p b) }) (record { place = NoPlace number; rota = rotaOf p })
 
-module _ (n : ℕ) (p : Plan) (s : Sound n p) where
+module _ (n : ℕ) (p : Plan) (s : Sound places n p) where
   rota-unbroken : unbroken n (rotaOf p) ≡ true
   unfolding unbroken
   rota-unbroken = rw (lt-ltb (p .next) n (s .inside)) (said-sound places n (p .asks) (s .few) (s .low) (s .once))
 
-  pub asked-is : (b : ℕ) → rotaAsked n (rotaOf p) b ≡ answerBy p b (askRefusal n p b)
+  pub asked-is : (b : ℕ) → rotaAsked n (rotaOf p) b ≡ answerBy p b (askRefusal places n p b)
   unfolding rotaAsked askNumber
   asked-is b = rw (rota-unbroken, list-said places (p .asks))
 
@@ -39,19 +39,19 @@ module _ (n : ℕ) (p : Plan) (s : Sound n p) where
   unfolding rotaTurned turnNumber
   turned-is = rw (rota-unbroken, list-said places (p .asks))
 
-  asked-rota : (b : ℕ) → rotaAsked n (rotaOf p) b .rota ≡ rotaOf (askAfter n p b)
+  asked-rota : (b : ℕ) → rotaAsked n (rotaOf p) b .rota ≡ rotaOf (askAfter places n p b)
   unfolding askAfter
-  asked-rota b = ap (λ (a : RotaAsked). a .rota) (asked-is b) ∙ go (askRefusal n p b)
+  asked-rota b = ap (λ (a : RotaAsked). a .rota) (asked-is b) ∙ go (askRefusal places n p b)
     where
       go : (v : ℕ) → answerBy p b v .rota ≡ rotaOf (ifZero v (joined p b) p)
       go zero = refl
       go (suc v) = refl
 
   -- an ask that is given a place is not refused, and the place is the plan's
-  pub asked-given : (b k : ℕ) → rotaAsked n (rotaOf p) b .place ≡ Given k → (askRefusal n p b ≡ 0) × (askPlace p b ≡ k)
-  asked-given b k e = go (askRefusal n p b) refl (rw asked-is at e)
+  pub asked-given : (b k : ℕ) → rotaAsked n (rotaOf p) b .place ≡ Given k → (askRefusal places n p b ≡ 0) × (askPlace p b ≡ k)
+  asked-given b k e = go (askRefusal places n p b) refl (rw asked-is at e)
     where
-      go : (v : ℕ) → askRefusal n p b ≡ v → answerBy p b v .place ≡ Given k → (askRefusal n p b ≡ 0) × (askPlace p b ≡ k)
+      go : (v : ℕ) → askRefusal places n p b ≡ v → answerBy p b v .place ≡ Given k → (askRefusal places n p b ≡ 0) × (askPlace p b ≡ k)
       go zero z e = (z, cc)
       go (suc v) z e = let w : _≡_ {A = ℕ} 0 1 = cc in absurd (omega arith)
 
@@ -67,7 +67,7 @@ module _ {Other : Type 0} where
 
   module _ (n : ℕ) where
     abbrev pub planStep : Step Other → Plan → Plan
-    planStep (ask b) p = askAfter n p b
+    planStep (ask b) p = askAfter places n p b
     planStep turn p = movedOn n p
     planStep (other x) p = p
 
@@ -80,22 +80,22 @@ module _ {Other : Type 0} where
     plan-append [] k p = refl
     plan-append (x ∷ l) k p = plan-append l k (planStep x p)
 
-    pub step-sound : (x : Step Other) (p : Plan) → Sound n p → Sound n (planStep x p)
-    step-sound (ask b) p s = ask-sound n p b s
-    step-sound turn p s = turn-sound n p s
+    pub step-sound : (x : Step Other) (p : Plan) → Sound places n p → Sound places n (planStep x p)
+    step-sound (ask b) p s = ask-sound places n p b s
+    step-sound turn p s = turn-sound places n p s
     step-sound (other x) p s = s
 
-    pub run-sound : (l : List (Step Other)) (p : Plan) → Sound n p → Sound n (planRun l p)
+    pub run-sound : (l : List (Step Other)) (p : Plan) → Sound places n p → Sound places n (planRun l p)
     unfolding planRun
     run-sound [] p s = s
     run-sound (x ∷ l) p s = run-sound l (planStep x p) (step-sound x p s)
 
-    pub step-runs : (x : Step Other) (p : Plan) → Sound n p → rotaStep n x (rotaOf p) ≡ rotaOf (planStep x p)
+    pub step-runs : (x : Step Other) (p : Plan) → Sound places n p → rotaStep n x (rotaOf p) ≡ rotaOf (planStep x p)
     step-runs (ask b) p s = asked-rota n p s b
     step-runs turn p s = ap (λ (t : RotaTurned). t .rota) (turned-is n p s)
     step-runs (other x) p s = refl
 
-    pub run-runs : (l : List (Step Other)) (p : Plan) → Sound n p → rotaRun n l (rotaOf p) ≡ rotaOf (planRun l p)
+    pub run-runs : (l : List (Step Other)) (p : Plan) → Sound places n p → rotaRun n l (rotaOf p) ≡ rotaOf (planRun l p)
     unfolding rotaRun planRun
     run-runs [] p s = refl
     run-runs (x ∷ l) p s = ap (rotaRun n l) (step-runs x p s) ∙ run-runs l (planStep x p) (step-sound x p s)
@@ -106,11 +106,11 @@ module _ {Other : Type 0} where
     planAt l = planRun l start
 
     module _ (some : 1 ≤ n) where
-      pub plan-sound : (l : List (Step Other)) → Sound n (planAt l)
-      plan-sound l = run-sound l start (start-sound n some)
+      pub plan-sound : (l : List (Step Other)) → Sound places n (planAt l)
+      plan-sound l = run-sound l start (start-sound places n some)
 
       pub rota-runs : (l : List (Step Other)) → rotaAt n l ≡ rotaOf (planAt l)
-      rota-runs l = run-runs l start (start-sound n some)
+      rota-runs l = run-runs l start (start-sound places n some)
 
       pub due-runs : (l : List (Step Other)) → dueAt n l ≡ due (planAt l)
       due-runs l = ap (λ (r : Rota). rotaTurned n r .due) (rota-runs l) ∙ ap (λ (t : RotaTurned). t .due) (turned-is n (planAt l) (plan-sound l))

@@ -3,6 +3,7 @@ use Prim.Native.Nat.{ℕ, suc}
 use mathlib.Core.Path.{_≡_, refl}
 use mathlib.Core.List.{List, [], _∷_}
 use lib.ListN.{drop}
+use Rattle.rota.specs.Line.{places}
 use Rattle.rota.specs.Plan.{Plan}
 use Rattle.rota.specs.Turning.{dueOf}
 use Rattle.rota.specs.Steps.{Step, ask, turn, other, tick, turns}
@@ -20,7 +21,7 @@ stands-first next first = refl
 module _ {Other : Type 0} (n : ℕ) where
   -- a turn moves the block up, and no other step moves it
   stands-step : (x : Step Other) (p : Plan) (k b : ℕ) → Stands b (tick x k) (p .asks) → Stands b k (planStep n x p .asks)
-  stands-step (ask c) p k b s = let e = ask-adds n p c in rw (e .1) (stands-more (e .0) s)
+  stands-step (ask c) p k b s = let e = ask-adds places n p c in rw (e .1) (stands-more (e .0) s)
   stands-step turn p k b s = stands-up s
   stands-step (other x) p k b s = s
 

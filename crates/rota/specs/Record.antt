@@ -30,7 +30,7 @@ abbrev pub fresh : Rota
 fresh = rotaOf start
 
 unfoldable pub askNumber : ℕ → Rota → ℕ → ℕ
-askNumber n rota block = 5 when not (unbroken n rota) else askRefusal n (planOf rota) block
+askNumber n rota block = 5 when not (unbroken n rota) else askRefusal places n (planOf rota) block
 
 unfoldable pub rotaAsked : ℕ → Rota → ℕ → RotaAsked
 rotaAsked n rota block =

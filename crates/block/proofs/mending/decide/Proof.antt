@@ -22,6 +22,10 @@ use Rattle.block.proofs.mending.decide.Tie as tie
 abbrev start : tie.After-lane-sums → tie.Start
 start c = c .before .before .before
 
+-- and where they are known, from where one of them is set
+abbrev summed : tie.Else1 → tie.After-lane-sums
+summed c = c .before .before
+
 long : (c : tie.After-lane-sums) → length (start c .args .block .now) ≡ 72
 long c = c .before .lane-sums-arg2 .given .0
 
@@ -57,18 +61,18 @@ enum-told c = search needs
 
 in-doubt-requires : tie.Need-in-doubt-requires
 in-doubt-requires c κs =
-    let doubted = c .before .before in
-    let a = doubted .before .before .before .before .before in
-    doubt _ _ _ (a .lane-sums .ensures) (long a) (doubted .enum-told .given .1) (doubted .before .before .before .if1 .left)
+    let told = c .before .before in
+    let set = told .before .before .before in
+    doubt _ _ _ (summed set .lane-sums .ensures) (long (summed set)) (told .enum-told .given .1) (set .if1 .left)
 
 enum-told-2 : tie.Need-enum-told-2
 enum-told-2 c = search needs
 
 in-doubt-requires-2 : tie.Need-in-doubt-requires-2
 in-doubt-requires-2 c κs =
-    let doubted = c .before .before in
-    let a = doubted .before .before .before .before .before in
-    doubt _ _ _ (a .lane-sums .ensures) (long a) (doubted .enum-told2 .given .1) (doubted .before .before .before .if1 .left)
+    let told = c .before .before in
+    let set = told .before .before .before in
+    doubt _ _ _ (summed set .lane-sums .ensures) (long (summed set)) (told .enum-told2 .given .1) (set .if1 .left)
 
 returns-2 : tie.Need-returns-2
 returns-2 c = of-shape (c .before .before .before .enum-told .given .1) _ _ _ (c .in-doubt .ensures)

@@ -29,11 +29,17 @@ passes c = sym (c .before .check-frame .ensures) ∙ c .if1 .left
 whole : (c : tie.Else1) → 9 ≤ length (start c .args .bytes .now)
 whole c = framed _ (passes c) .least
 
+-- from where G is read, where shape and s were
+abbrev shape-read : tie.After-pair-of → tie.After-wide
+shape-read c = c .before .before .before .before .before
+
+abbrev s-read : tie.After-pair-of → tie.After-wide2
+s-read c = c .before .before .before
+
 -- the layout that was read is the one in the bytes
 read : (c : tie.After-pair-of)
-    → layoutOf (c .before .before .before .before .before .wide .result) (c .before .before .before .wide2 .result) (c .pair-of .result)
-    ≡ layoutIn (start (framing c) .args .bytes .now)
-read c = same-layout (c .before .before .before .before .before .wide .ensures) (c .before .before .before .wide2 .ensures) (c .pair-of .ensures .0)
+    → layoutOf (shape-read c .wide .result) (s-read c .wide2 .result) (c .pair-of .result) ≡ layoutIn (start (framing c) .args .bytes .now)
+read c = same-layout (shape-read c .wide .ensures) (s-read c .wide2 .ensures) (c .pair-of .ensures .0)
 
 -- and the file is refused as its body is
 refusal : (c : tie.After-check-body) → fileRefusal (start (framing (c .before)) .args .bytes .now) ≡ c .check-body .result

@@ -1,5 +1,5 @@
 -- `words::answers::with_visit` meets its contract. The loop's invariant: the words of the verdict that were passed stand behind the block. Assumes nothing.
-use Prim.Native.Nat.{ℕ, _+_, _≤_, _-_}
+use Prim.Native.Nat.{_+_, _≤_, _-_}
 use mathlib.Core.Path.{_≡_, ap, _∙_}
 use native.Mathlib.Omega.{arith}
 use lib.ListN.{set, length-set}
