@@ -10,20 +10,20 @@ verdict-some Clean e = omega arith
 verdict-some (Mended m) e = omega arith
 verdict-some (Lost m) e = omega arith
 
-pub verdicts-apart : (a b : Verdict) → verdictNumber a ≡ verdictNumber b → verdictCount a ≡ verdictCount b → a ≡ b
-verdicts-apart Clean Clean n c = refl
-verdicts-apart Clean (Mended m) n c = absurd (omega arith)
-verdicts-apart Clean (Lost m) n c = absurd (omega arith)
-verdicts-apart (Mended m) Clean n c = absurd (omega arith)
-verdicts-apart (Mended m) (Mended k) n c = ap Mended c
-verdicts-apart (Mended m) (Lost k) n c = absurd (omega arith)
-verdicts-apart (Lost m) Clean n c = absurd (omega arith)
-verdicts-apart (Lost m) (Mended k) n c = absurd (omega arith)
-verdicts-apart (Lost m) (Lost k) n c = ap Lost c
+pub verdicts-told : (a b : Verdict) → verdictNumber a ≡ verdictNumber b → verdictCount a ≡ verdictCount b → a ≡ b
+verdicts-told Clean Clean n c = refl
+verdicts-told Clean (Mended m) n c = absurd (omega arith)
+verdicts-told Clean (Lost m) n c = absurd (omega arith)
+verdicts-told (Mended m) Clean n c = absurd (omega arith)
+verdicts-told (Mended m) (Mended k) n c = ap Mended c
+verdicts-told (Mended m) (Lost k) n c = absurd (omega arith)
+verdicts-told (Lost m) Clean n c = absurd (omega arith)
+verdicts-told (Lost m) (Mended k) n c = absurd (omega arith)
+verdicts-told (Lost m) (Lost k) n c = ap Lost c
 
 -- by their words
-pub verdict-words-apart : (a b : Verdict) → verdictWords a ≡ verdictWords b → a ≡ b
-verdict-words-apart a b e = verdicts-apart a b (cc) (cc)
+pub verdict-words-told : (a b : Verdict) → verdictWords a ≡ verdictWords b → a ≡ b
+verdict-words-told a b e = verdicts-told a b (cc) (cc)
 
 pub verdict-words-some : (v : Verdict) → verdictWords v ≡ noVerdict → ⊥
 verdict-words-some v e = verdict-some v (cc)

@@ -13,7 +13,7 @@ use Rattle.lane.specs.Decision.{decide, lost?, changes}
 use Rattle.lane.specs.Encoded.{encoded}
 use Rattle.ground.specs.Choice.{ifZero}
 use Rattle.block.specs.declared.Shape.{Shape}
-use Rattle.block.specs.Shape.{before, rows, digits, dataRowsOf, words}
+use Rattle.block.specs.Shape.{before, rows, digits, dataRowsOf, words, mostRows}
 use Rattle.ground.specs.Totals.{total}
 use Rattle.ground.specs.Stores.{stores}
 use Rattle.ground.specs.Lists.{listOf}
@@ -36,9 +36,9 @@ Fitting block = (j : ℕ) → getD block j 0 < 2 ^ 32
 
 -- ---- data
 
--- 72 words of zero
+-- the words of a gathered block, all zero
 abbrev pub blank : List ℕ
-blank = replicate 72 0
+blank = replicate mostRows 0
 
 -- the data words, in order, in the data rows; zero elsewhere
 unfoldable pub dataBlock : Shape → List ℕ → List ℕ
@@ -48,7 +48,7 @@ dataBlock shape list =
 -- the valid block for a list of data words
 unfoldable pub validBlock : Shape → List ℕ → List ℕ
 validBlock shape list =
-    listOf 72
+    listOf mostRows
     (λ j. cond (ltb j (rows shape)) (word (λ i. encoded (digits shape) (before shape) (lane i (dataBlock shape list)) (suc j))) 0)
 
 -- the data words of a block

@@ -10,7 +10,7 @@ use Rattle.lane.specs.Bit.{bit}
 use Rattle.lane.specs.Rows.{rowsWhere, covered, allRows}
 use Rattle.block.specs.declared.Shape.{Shape}
 use Rattle.block.specs.declared.sums.Sums.{Sums}
-use Rattle.block.specs.Shape.{before, rows}
+use Rattle.block.specs.Shape.{before, rows, mostRows}
 use Rattle.ground.specs.Lists.{listOf}
 use Rattle.ground.specs.Stores.{stores}
 use Rattle.block.specs.Words.{row, number, word}
@@ -55,7 +55,7 @@ sumsOf shape block =
 -- a gathered block with its digits and parities, one of which is set
 abbrev pub InDoubt : Shape → List ℕ → List ℕ → ℕ → Type 0
 InDoubt shape block digits parity =
-    (length block ≡ 72) × (digits ≡ sumsOf shape block .digits) × (parity ≡ sumsOf shape block .parity) × (sumsOf shape block .some ≡ 0 → ⊥)
+    (length block ≡ mostRows) × (digits ≡ sumsOf shape block .digits) × (parity ≡ sumsOf shape block .parity) × (sumsOf shape block .some ≡ 0 → ⊥)
 
 -- what is found of the block at `at`: its sums, and the lanes in which one is set; 1 where the block is not all there
 abbrev pub Looked : Shape → ℕ → List ℕ → ℕ → List ℕ → Type 0

@@ -13,6 +13,10 @@ before Two = 71
 abbrev pub rows : Shape → ℕ
 rows shape = suc (before shape)
 
+-- the words of a gathered block: room for the rows of either shape
+abbrev pub mostRows : ℕ
+mostRows = rows Two
+
 -- how many binary digits the number of a row before the last has
 abbrev pub digits : Shape → ℕ
 digits One = 4

@@ -3,8 +3,10 @@ ghost use mathlib.Core.Path.{_≡_};
 ghost use Prim.Native.Nat.{_-_, _<_};
 ghost use lib.ListN.{length, getD, replicate};
 ghost use Rattle.ground.specs.Stores.{stores};
+ghost use Rattle.block.specs.Shape.{mostRows};
 ghost use Rattle.block.specs.Block.{dataBlock, validBlock, dataInto};
 ghost use Rattle.block.specs.Inner.{Listed, Rising, copiedInto, xorAll, withChecks};
+use super::MOST_ROWS;
 use super::Shape;
 use super::shapes::rows_before;
 use super::sums::lane_sums;
@@ -12,12 +14,12 @@ use super::tables::*;
 use ground::least;
 
 // The data words in the listed rows, in order, and zero elsewhere.
-fn spread(rows: &[u8], list: &[u32]) -> [u32; 72]
-    requires { ⌜ Listed 72 (now rows) × Rising (now rows) ⌝ }
-    ensures { λ r. ⌜ r ≡ stores (replicate 72 0) (λ k. getD (now (rows .entry)) k 0 - 1) (λ k. getD (now (list .entry)) k 0) (length (now (rows .entry))) ⌝ }
+fn spread(rows: &[u8], list: &[u32]) -> [u32; MOST_ROWS]
+    requires { ⌜ Listed mostRows (now rows) × Rising (now rows) ⌝ }
+    ensures { λ r. ⌜ r ≡ stores (replicate mostRows 0) (λ k. getD (now (rows .entry)) k 0 - 1) (λ k. getD (now (list .entry)) k 0) (length (now (rows .entry))) ⌝ }
 {
     let n = least(rows.len(), list.len());
-    let mut block = [0u32; 72];
+    let mut block = [0u32; MOST_ROWS];
     let mut k = 0;
     while k < n {
         let p = rows[k] as usize;
@@ -27,7 +29,7 @@ fn spread(rows: &[u8], list: &[u32]) -> [u32; 72]
     block
 }
 
-fn spread_data(shape: Shape, list: &[u32]) -> [u32; 72]
+fn spread_data(shape: Shape, list: &[u32]) -> [u32; MOST_ROWS]
     ensures { λ r. ⌜ r ≡ dataBlock shape (now (list .entry)) ⌝ }
 {
     match shape {
@@ -50,7 +52,7 @@ fn xor_all(digits: &[u32; 7]) -> u32
 }
 
 // Sets check rows 1, 2, 4, .. 64 to the digits' words.
-fn set_checks(block: &mut [u32; 72], digits: &[u32; 7])
+fn set_checks(block: &mut [u32; MOST_ROWS], digits: &[u32; 7])
     ensures { λ r. ⌜ now (block .exit) ≡ withChecks (now (digits .entry)) (now (block .entry)) ⌝ }
 {
     let mut at: usize = 1;
@@ -63,7 +65,7 @@ fn set_checks(block: &mut [u32; 72], digits: &[u32; 7])
 }
 
 // The valid block for a list of data words: a word that is missing counts as zero, and words past the last data row are not used.
-pub fn encode(shape: Shape, list: &[u32]) -> [u32; 72]
+pub fn encode(shape: Shape, list: &[u32]) -> [u32; MOST_ROWS]
     ensures { λ r. ⌜ r ≡ validBlock shape (now (list .entry)) ⌝ }
 {
     let mut block = spread_data(shape, list);
@@ -77,8 +79,8 @@ pub fn encode(shape: Shape, list: &[u32]) -> [u32; 72]
 }
 
 // Copies the words of the listed rows, in order, as many as the buffer has room for.
-fn copy_rows(rows: &[u8], block: &[u32; 72], buffer: &mut [u32])
-    requires { ⌜ Listed 72 (now rows) ⌝ }
+fn copy_rows(rows: &[u8], block: &[u32; MOST_ROWS], buffer: &mut [u32])
+    requires { ⌜ Listed mostRows (now rows) ⌝ }
     ensures { λ r. ⌜ now (buffer .exit) ≡ copiedInto (now (rows .entry)) (now (block .entry)) (now (buffer .entry)) ⌝ }
 {
     let n = least(rows.len(), buffer.len());
@@ -91,7 +93,7 @@ fn copy_rows(rows: &[u8], block: &[u32; 72], buffer: &mut [u32])
 }
 
 // Copies the data words of a block to a buffer.
-pub fn data_into(shape: Shape, block: &[u32; 72], buffer: &mut [u32])
+pub fn data_into(shape: Shape, block: &[u32; MOST_ROWS], buffer: &mut [u32])
     ensures { λ r. ⌜ now (buffer .exit) ≡ dataInto shape (now (block .entry)) (now (buffer .entry)) ⌝ }
 {
     match shape {

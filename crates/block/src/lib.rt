@@ -8,6 +8,7 @@ mod tables;
 pub use coding::data_into;
 pub use coding::encode;
 pub use mending::decide;
+pub use shapes::MOST_ROWS;
 pub use shapes::rows;
 pub use shapes::words;
 pub use sums::valid;

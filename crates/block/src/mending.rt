@@ -3,9 +3,11 @@ ghost use mathlib.Core.Path.{_≡_};
 ghost use mathlib.Core.Bool.{true};
 ghost use Prim.Native.Nat.{ℕ, _≤_, _<_};
 ghost use Rattle.lane.specs.Bit.{bit};
+ghost use Rattle.block.specs.Shape.{mostRows};
 ghost use Rattle.block.specs.Block.{mendedBlock};
 ghost use Rattle.block.specs.Verdict.{verdictOf};
 ghost use Rattle.block.specs.Inner.{anyOf, aboveOf, sumAt, rowNamed, flippedIn, InDoubt};
+use super::MOST_ROWS;
 use super::Shape;
 use super::Verdict;
 use super::shapes::rows_before;
@@ -62,8 +64,8 @@ fn row_named(digits: &[u32; 7], i: u32, last: usize) -> usize
 }
 
 // Flips, in every odd lane, the row that its sum names.
-fn flip_named(block: &mut [u32; 72], digits: &[u32; 7], parity: u32, last: usize)
-    requires { ⌜ (1 ≤ last) × (last ≤ 72) × ((i : ℕ) → i < 32 → bit i parity ≡ true → sumAt (now digits) i < last) ⌝ }
+fn flip_named(block: &mut [u32; MOST_ROWS], digits: &[u32; 7], parity: u32, last: usize)
+    requires { ⌜ (1 ≤ last) × (last ≤ mostRows) × ((i : ℕ) → i < 32 → bit i parity ≡ true → sumAt (now digits) i < last) ⌝ }
     ensures { λ r. ⌜ now (block .exit) ≡ flippedIn last (now (digits .entry)) (λ i. bit i parity) (now (block .entry)) ⌝ }
 {
     let mut left = parity;
@@ -77,7 +79,7 @@ fn flip_named(block: &mut [u32; 72], digits: &[u32; 7], parity: u32, last: usize
 }
 
 // A block in doubt: lost where a lane is, and else mended.
-fn in_doubt(shape: Shape, block: &mut [u32; 72], digits: &[u32; 7], parity: u32) -> Verdict
+fn in_doubt(shape: Shape, block: &mut [u32; MOST_ROWS], digits: &[u32; 7], parity: u32) -> Verdict
     requires { ⌜ InDoubt shape (now block) (now digits) parity ⌝ }
     ensures verdict { λ r. ⌜ r ≡ verdictOf shape (now (block .entry)) ⌝ }
     ensures after { λ r. ⌜ now (block .exit) ≡ mendedBlock shape (now (block .entry)) ⌝ }
@@ -92,7 +94,7 @@ fn in_doubt(shape: Shape, block: &mut [u32; 72], digits: &[u32; 7], parity: u32)
 }
 
 // Decides a gathered block, and mends it where no lane is lost. Doubt is rare: a call for each shape keeps it out of line.
-pub fn decide(shape: Shape, block: &mut [u32; 72]) -> Verdict
+pub fn decide(shape: Shape, block: &mut [u32; MOST_ROWS]) -> Verdict
     ensures verdict { λ r. ⌜ r ≡ verdictOf shape (now (block .entry)) ⌝ }
     ensures after { λ r. ⌜ now (block .exit) ≡ mendedBlock shape (now (block .entry)) ⌝ }
 {

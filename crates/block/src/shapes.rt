@@ -3,13 +3,19 @@ ghost use mathlib.Core.Path.{_≡_};
 ghost use Rattle.block.specs.Shape.{before, rows, words};
 use super::Shape;
 
+// The rows before the last of the larger shape.
+const MOST_BEFORE: usize = 71;
+
+// Its rows: a block of either shape is gathered into an array of so many words.
+pub const MOST_ROWS: usize = MOST_BEFORE + 1;
+
 // How many rows stand before the last.
 pub(crate) fn rows_before(shape: Shape) -> usize
     ensures { λ r. ⌜ r ≡ before shape ⌝ }
 {
     match shape {
         Shape::One => 15,
-        Shape::Two => 71,
+        Shape::Two => MOST_BEFORE,
     }
 }
 

@@ -2,7 +2,7 @@
 ghost use mathlib.Core.Path.{_≡_};
 ghost use Prim.Native.Nat.{_+_, _-_, _≤_};
 ghost use lib.ListN.{length, drop, replicate};
-ghost use Rattle.block.specs.Shape.{rows};
+ghost use Rattle.block.specs.Shape.{mostRows, rows};
 ghost use Rattle.block.specs.Verdict.{validFrom};
 ghost use Rattle.block.specs.Inner.{xorOver, Listed, sumsOf, sumWords, anyOf, Looked};
 use super::Shape;
@@ -112,7 +112,7 @@ pub fn valid(shape: Shape, words: &[u32], at: usize) -> bool
 
 // The sums and the parities of a gathered block.
 pub(crate) fn lane_sums(shape: Shape, block: &[u32]) -> Sums
-    requires { ⌜ length (now block) ≡ 72 ⌝ }
+    requires { ⌜ length (now block) ≡ mostRows ⌝ }
     ensures { λ r. ⌜ r ≡ sumsOf shape (now (block .entry)) ⌝ }
 {
     let mut sums = [0u32; 8];

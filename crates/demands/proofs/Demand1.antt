@@ -23,7 +23,7 @@ use Rattle.patrol.specs.declared.Record.{Record}
 use Rattle.patrol.specs.Ask.{asked}
 use Rattle.patrol.specs.Turn.{turned}
 use Rattle.patrol.proofs.Numbers.{place-bare, report-bare}
-use Rattle.patrol.proofs.Kept.{format-kept, ask-kept, turn-kept}
+use Rattle.patrol.proofs.Unchanged.{format-unchanged, ask-unchanged, turn-unchanged}
 use Rattle.patrol.proofs.Reasons.{format-first, ask-first, turn-first}
 use Rattle.demands.specs.Demand1.{Refusing, FormatRefusing, AskRefusing, TurnRefusing, Demand1}
 
@@ -60,15 +60,15 @@ module _ (image : List ℕ) (layout : Layout) (block : ℕ) where
 
 pub format-refuses : (image : List ℕ) (layout : Layout) → FormatRefusing image layout
 format-refuses image layout =
-    record { ruled = ruled _ _ tt (format-first image layout); unchanged = format-kept image layout }
+    record { ruled = ruled _ _ tt (format-first image layout); unchanged = format-unchanged image layout }
 
 pub ask-refuses : (r : Record) (block : ℕ) → AskRefusing r block
 ask-refuses r block =
-    record { ruled = ruled _ _ tt (ask-first r block); bare = place-bare (asked r block .place); unchanged = ask-kept r block }
+    record { ruled = ruled _ _ tt (ask-first r block); bare = place-bare (asked r block .place); unchanged = ask-unchanged r block }
 
 pub turn-refuses : (r : Record) (image : List ℕ) → TurnRefusing r image
 turn-refuses r image =
-    record { ruled = ruled _ _ tt (turn-first r image); bare = report-bare (turned r image .report); unchanged = turn-kept r image }
+    record { ruled = ruled _ _ tt (turn-first r image); bare = report-bare (turned r image .report); unchanged = turn-unchanged r image }
 
 pub demand-1 : Demand1
 demand-1 =

@@ -2,7 +2,7 @@
 use Prim.Native.Nat.{ℕ, suc, _+_}
 use mathlib.Core.Bool.{true}
 use mathlib.Core.Path.{_≡_, refl, ap, ap₂, _∙_}
-use mathlib.Core.List.{List, _∷_, map}
+use mathlib.Core.List.{List, _∷_, _++_, map}
 use native.Mathlib.Omega.{arith}
 use lib.Bits.{bitXor, bitOr}
 use lib.ListN.{length, set}
@@ -16,7 +16,7 @@ use Rattle.block.specs.declared.Verdict.{Verdict}
 use Rattle.block.specs.Shape.{before}
 use Rattle.block.specs.Words.{number}
 use Rattle.block.specs.Block.{dataBlock, validBlock, mendedBlock}
-use Rattle.block.specs.Verdict.{verdictOf, verdictNumber, verdictCount}
+use Rattle.block.specs.Verdict.{verdictOf, verdictWords}
 use Rattle.block.specs.Inner.{xorOver, sumsOf, anyOf, aboveOf, lostLanes, flippedIn, xorAll, withChecks}
 use Rattle.block.proofs.ByWords.{fit?, bits, written, lost-by-words, mended-by-words}
 use Rattle.layout.specs.Layout.{shapeNumbered}
@@ -32,9 +32,9 @@ module _ (shape : Shape) where
   wrote list block fit e = written shape list fit ∙ e
 
   said : (found after : List ℕ) (v : Verdict) → (verdictOf shape found ≡ v) × (mendedBlock shape found ≡ after)
-      → _≡_ {A = List ℕ} (verdictNumber (verdictOf shape found) ∷ verdictCount (verdictOf shape found) ∷ mendedBlock shape found)
-      (verdictNumber v ∷ verdictCount v ∷ after)
-  said found after v e = ap₂ (λ (w : Verdict) (l : List ℕ). verdictNumber w ∷ verdictCount w ∷ l) (e .0) (e .1)
+      → _≡_ {A = List ℕ} (verdictWords (verdictOf shape found) ++ mendedBlock shape found)
+      (verdictWords v ++ after)
+  said found after v e = ap₂ (λ (w : Verdict) (l : List ℕ). verdictWords w ++ l) (e .0) (e .1)
 
   module _ (found : List ℕ) (fit : fit? found ≡ true) (long : length found ≡ 72) where
     abbrev lostWord : ℕ
@@ -42,7 +42,7 @@ module _ (shape : Shape) where
 
     -- a lost block, by the word of its lost lanes
     was-lost : (w n : ℕ) → lostWord ≡ suc w → bits lostWord ≡ n
-        → _≡_ {A = List ℕ} (verdictNumber (verdictOf shape found) ∷ verdictCount (verdictOf shape found) ∷ mendedBlock shape found) (lost ∷ n ∷ found)
+        → _≡_ {A = List ℕ} (verdictWords (verdictOf shape found) ++ mendedBlock shape found) (lost ∷ n ∷ found)
     was-lost w n e c =
         said found found _ (lost-by-words shape found fit long (λ z. omega (arith, e))) ∙ ap (λ (k : ℕ). lost ∷ k ∷ found) c
 
@@ -50,7 +50,7 @@ module _ (shape : Shape) where
     was-mended : (n w : ℕ) (after : List ℕ) → lostWord ≡ 0 → bitOr (anyOf 7 (sumsOf shape found .digits)) (sumsOf shape found .parity) ≡ suc w
         → bits (sumsOf shape found .parity) ≡ n
         → flippedIn (before shape + 1) (sumsOf shape found .digits) (λ i. bit i (sumsOf shape found .parity)) found ≡ after
-        → _≡_ {A = List ℕ} (verdictNumber (verdictOf shape found) ∷ verdictCount (verdictOf shape found) ∷ mendedBlock shape found) (mended ∷ n ∷ after)
+        → _≡_ {A = List ℕ} (verdictWords (verdictOf shape found) ++ mendedBlock shape found) (mended ∷ n ∷ after)
     was-mended n w after z s c e =
         said found _ _ (mended-by-words shape found fit long z (λ q. omega (arith, s))) ∙ ap₂ (λ (k : ℕ) (l : List ℕ). mended ∷ k ∷ l) c e
 

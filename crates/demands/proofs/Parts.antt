@@ -95,7 +95,7 @@ module _ (block : ℕ) where
   step-written (write layout to list) old state = call-written (answers (write layout to list) state) (writes to list ∷ []) old
   step-written (read layout from buffer) old state = call-unwritten (answers (read layout from buffer) state) (reads from ∷ []) old refl
   step-written (visit layout at) old state = call-unwritten (answers (visit layout at) state) (visits at ∷ []) old refl
-  step-written (ask asked) old state = refl
+  step-written (ask wanted) old state = refl
   step-written turn old state = refl
   step-written (flip at bit) old state = refl
 

@@ -40,7 +40,7 @@ module _ (layout : Layout) (block : ℕ) where
       go (suc number) e t = ok
   meant-data old (read named from buffer) state same small ok = ok
   meant-data old (visit named at) state same small ok = ok
-  meant-data old (ask asked) state same small ok = ok
+  meant-data old (ask wanted) state same small ok = ok
   meant-data old turn state same small ok = ok
   meant-data old (flip at bit) state same small ok = ok
 

@@ -89,7 +89,7 @@ meant block old (write layout to list) state =
     ifZero (answers (write layout to list) state) (cond (eqb to block) list old) old
 meant block old (read layout from buffer) state = old
 meant block old (visit layout at) state = old
-meant block old (ask asked) state = old
+meant block old (ask wanted) state = old
 meant block old turn state = old
 meant block old (flip index bit) state = old
 

@@ -30,15 +30,15 @@ pub one-format-call : {image after after' words words' : List ℕ} {layout : Lay
     → (number ≡ number') × (after ≡ after') × (words ≡ words')
 one-format-call w w' = (same (w .answers) (w' .answers), same (w .leaves) (w' .leaves), same (w .back) (w' .back))
 
-pub one-ask-call : {given words words' place place' : List ℕ} {block number number' : ℕ}
-    → AskCall given block number words place
-    → AskCall given block number' words' place'
+pub one-ask-call : {lent words words' place place' : List ℕ} {block number number' : ℕ}
+    → AskCall lent block number words place
+    → AskCall lent block number' words' place'
     → (number ≡ number') × (words ≡ words') × (place ≡ place')
 one-ask-call w w' = (same (w .answers) (w' .answers), same (w .back) (w' .back), same (w .says) (w' .says))
 
-pub one-turn-call : {given image words words' after after' report report' : List ℕ} {number number' : ℕ}
-    → TurnCall given image number words after report
-    → TurnCall given image number' words' after' report'
+pub one-turn-call : {lent image words words' after after' report report' : List ℕ} {number number' : ℕ}
+    → TurnCall lent image number words after report
+    → TurnCall lent image number' words' after' report'
     → (number ≡ number') × (words ≡ words') × (after ≡ after') × (report ≡ report')
 one-turn-call w w' =
     (same (w .answers) (w' .answers), same (w .back) (w' .back), same (w .leaves) (w' .leaves), same (w .says) (w' .says))

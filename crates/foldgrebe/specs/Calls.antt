@@ -39,14 +39,14 @@ pub record FormatCall (image : List ℕ) (layout : Layout) (number : ℕ) (after
   pub back : words ≡ recordWords (formatted image layout .back)
 
 -- ask: the record that was lent, and what it becomes
-pub record AskCall (given : List ℕ) (block number : ℕ) (words place : List ℕ) : Type 0 where
-  pub answers : number ≡ placeNumber (asked (recordOf given) block .place)
-  pub back : words ≡ recordWords (asked (recordOf given) block .back)
-  pub says : place ≡ placeWords (asked (recordOf given) block .place)
+pub record AskCall (lent : List ℕ) (block number : ℕ) (words place : List ℕ) : Type 0 where
+  pub answers : number ≡ placeNumber (asked (recordOf lent) block .place)
+  pub back : words ≡ recordWords (asked (recordOf lent) block .back)
+  pub says : place ≡ placeWords (asked (recordOf lent) block .place)
 
 -- turn
-pub record TurnCall (given image : List ℕ) (number : ℕ) (words after report : List ℕ) : Type 0 where
-  pub answers : number ≡ reportNumber (turned (recordOf given) image .report)
-  pub leaves : after ≡ turnAfter (recordOf given) image
-  pub back : words ≡ recordWords (turned (recordOf given) image .back)
-  pub says : report ≡ reportWords (turned (recordOf given) image .report)
+pub record TurnCall (lent image : List ℕ) (number : ℕ) (words after report : List ℕ) : Type 0 where
+  pub answers : number ≡ reportNumber (turned (recordOf lent) image .report)
+  pub leaves : after ≡ turnAfter (recordOf lent) image
+  pub back : words ≡ recordWords (turned (recordOf lent) image .back)
+  pub says : report ≡ reportWords (turned (recordOf lent) image .report)

@@ -29,10 +29,10 @@ pub extern "C" fn foldgrebe_ask(
     ensures { λ r. ⌜ AskCall (now («record» .entry)) block r (now («record» .exit)) (now (place .exit)) ⌝ }
 {
     let answer = words::record_of(*record).ask(block);
-    let given = answer.place;
+    let got = answer.place;
     *record = words::record_words(answer.back);
-    *place = words::place_words(given);
-    words::place_number(given)
+    *place = words::place_words(got);
+    words::place_number(got)
 }
 
 #[no_mangle]

@@ -33,15 +33,15 @@ module _ (rows s : ℕ) (first : 1 ≤ s) where
   digits : (block k : ℕ) → indexBy rows s block (suc k) ≡ (block / s * rows + k) * s + block % s
   digits block k = omega (arith, add-mul (block / s * rows) k s, row-up k s)
 
-  place-of : (block k : ℕ) → indexBy rows s block (suc k) % s ≡ block % s
-  place-of block k = rw (digits block k) (digits-mod (block / s * rows + k) (mod-lt block first))
+  within-of : (block k : ℕ) → indexBy rows s block (suc k) % s ≡ block % s
+  within-of block k = rw (digits block k) (digits-mod (block / s * rows + k) (mod-lt block first))
 
   line-of : (block k : ℕ) → indexBy rows s block (suc k) / s ≡ block / s * rows + k
   line-of block k = rw (digits block k) (digits-div (block / s * rows + k) (mod-lt block first))
 
   -- the block of an index, and the row
   block-of : (block k : ℕ) → k < rows → indexBy rows s block (suc k) / s / rows * s + indexBy rows s block (suc k) % s ≡ block
-  block-of block k h = rw (line-of block k, place-of block k, digits-div (block / s) h) (div-add-mod' block s)
+  block-of block k h = rw (line-of block k, within-of block k, digits-div (block / s) h) (div-add-mod' block s)
 
   row-of : (block k : ℕ) → k < rows → indexBy rows s block (suc k) / s % rows ≡ k
   row-of block k h = rw (line-of block k) (digits-mod (block / s) h)

@@ -6,7 +6,7 @@ use super::Site;
 use block::rows;
 
 impl Layout {
-    // Refusals 1 to 4 and 6, and then the place of the block's first row.
+    // Refusals 1 to 4 and 6, and then the index of the block's first row.
     pub fn locate(self, len: usize, block: u32) -> Site
         ensures { λ r. ⌜ r ≡ siteOf len self block ⌝ }
     {

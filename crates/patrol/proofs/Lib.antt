@@ -1,5 +1,5 @@
 pub mod Calls
 pub mod Visits
 pub mod Numbers
-pub mod Kept
+pub mod Unchanged
 pub mod Reasons

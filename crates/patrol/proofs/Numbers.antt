@@ -5,7 +5,7 @@ use mathlib.Core.List.{List, _++_}
 use native.Mathlib.Omega.{arith}
 use lib.ListN.{length}
 use Rattle.ground.specs.Ladder.{_then_}
-use Rattle.block.proofs.Verdicts.{verdict-words-apart, verdict-words-some}
+use Rattle.block.proofs.Verdicts.{verdict-words-told, verdict-words-some}
 use Rattle.layout.specs.declared.Layout.{Layout}
 use Rattle.layout.specs.Layout.{blocks}
 use Rattle.layout.specs.Refusal.{layoutRefusal, imageRefusal}
@@ -25,20 +25,20 @@ use Rattle.patrol.specs.Numbers.{reportNumber, noVisit, reportWords}
 
 -- ---- the numbers tell the reports apart
 
-pub reports-apart : (a b : Report) → (a ≡ Refused 0 → ⊥) → (b ≡ Refused 0 → ⊥) → reportNumber a ≡ reportNumber b → reportWords a ≡ reportWords b → a ≡ b
-reports-apart (Refused m) (Refused n) p q e w = ap Refused e
-reports-apart (Refused m) (One f v) p q e w = absurd (p (ap Refused e))
-reports-apart (Refused m) (Two f v g u) p q e w = absurd (p (ap Refused e))
-reports-apart (One f v) (Refused n) p q e w = absurd (q (ap Refused (sym e)))
-reports-apart (One f v) (One h x) p q e w = ap₂ One (cc) (verdict-words-apart v x (cc))
-reports-apart (One f v) (Two h x k y) p q e w = absurd (verdict-words-some y (cc))
-reports-apart (Two f v g u) (Refused n) p q e w = absurd (q (ap Refused (sym e)))
-reports-apart (Two f v g u) (One h x) p q e w = absurd (verdict-words-some u (cc))
-reports-apart (Two f v g u) (Two h x k y) p q e w =
+pub reports-told : (a b : Report) → (a ≡ Refused 0 → ⊥) → (b ≡ Refused 0 → ⊥) → reportNumber a ≡ reportNumber b → reportWords a ≡ reportWords b → a ≡ b
+reports-told (Refused m) (Refused n) p q e w = ap Refused e
+reports-told (Refused m) (One f v) p q e w = absurd (p (ap Refused e))
+reports-told (Refused m) (Two f v g u) p q e w = absurd (p (ap Refused e))
+reports-told (One f v) (Refused n) p q e w = absurd (q (ap Refused (sym e)))
+reports-told (One f v) (One h x) p q e w = ap₂ One (cc) (verdict-words-told v x (cc))
+reports-told (One f v) (Two h x k y) p q e w = absurd (verdict-words-some y (cc))
+reports-told (Two f v g u) (Refused n) p q e w = absurd (q (ap Refused (sym e)))
+reports-told (Two f v g u) (One h x) p q e w = absurd (verdict-words-some u (cc))
+reports-told (Two f v g u) (Two h x k y) p q e w =
     let first : f ≡ h = cc in
-    let same = verdict-words-apart v x (cc) in
+    let same = verdict-words-told v x (cc) in
     let second : g ≡ k = cc in
-    let other = verdict-words-apart u y (cc) in
+    let other = verdict-words-told u y (cc) in
     λ i. Two (first i) (same i) (second i) (other i)
 
 -- a refusal has block, verdict, count and place 0

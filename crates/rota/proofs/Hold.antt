@@ -20,7 +20,7 @@ use Rattle.rota.specs.declared.Rota.{Rota}
 use Rattle.rota.specs.declared.Due.{Due}
 use Rattle.rota.specs.declared.Due.the-variants.{Refused, One, Two}
 use Rattle.rota.proofs.Plans.{Sound, start-sound, ask-adds}
-use Rattle.rota.proofs.Runs.{turned-is, turns-append, planStep, planRun, step-sound, step-runs}
+use Rattle.rota.proofs.Runs.{rota-turned-is, turns-append, planStep, planRun, step-sound, step-runs}
 use Rattle.rota.proofs.Round.{Away, away, away-zero, away-step}
 
 module _ {n : ℕ} (M : Memory n) where
@@ -160,7 +160,7 @@ module _ {n : ℕ} (M : Memory n) where
     after-step : (x : StepOf M) → Spaced M (done ++ x ∷ [])
         → Held (Hurt (done ++ x ∷ []) (planStep n x p .next)) (λ c. meant c (w c) x) (memoryStep M x (rotaOf p) m)
     after-step (ask b) sp = rw (ask-adds places n p b .2) (quiet (ask b) refl)
-    after-step turn sp = rw (turned-is n p s) (after-turn (p .asks))
+    after-step turn sp = rw (rota-turned-is n p s) (after-turn (p .asks))
     after-step (other x) sp = after-touch x sp
 
   -- ---- a list of steps

@@ -17,7 +17,7 @@ use Rattle.rota.specs.Patrol.{StepOf, memoryAt, Spaced}
 use Rattle.rota.specs.declared.Place.the-variants.{Given}
 use Rattle.rota.specs.declared.Due.the-variants.{Two}
 use Rattle.rota.proofs.Plans.{ask-stands, askAfter}
-use Rattle.rota.proofs.Runs.{asked-given, planRun, planAt, plan-append, plan-sound, rota-runs, due-runs}
+use Rattle.rota.proofs.Runs.{rota-asked-given, planRun, planAt, plan-append, plan-sound, rota-runs, due-runs}
 use Rattle.rota.proofs.Serve.{stands-first, stands-run}
 use Rattle.rota.proofs.Round.{away, reached}
 use Rattle.rota.proofs.Hold.{reads}
@@ -46,7 +46,7 @@ module _ {Other : Type 0} where
 
     module _ (pre : List (Step Other)) (b k : ℕ) (e : rotaAsked n (rotaAt n pre) b .place ≡ Given k) where
       given : (askRefusal places n (planAt n pre) b ≡ 0) × (askPlace (planAt n pre) b ≡ k)
-      given = asked-given n (planAt n pre) (plan-sound n some pre) b k (rw (rota-runs n some pre) at e)
+      given = rota-asked-given n (planAt n pre) (plan-sound n some pre) b k (rw (rota-runs n some pre) at e)
 
       -- an ask that is given the place k is served by the k-th turn after it, whatever comes between
       pub ask-served : (mid : List (Step Other)) → turns mid + 1 ≡ k → dueAt n (pre ++ ask b ∷ mid) ≡ Two (rotaAt n (pre ++ ask b ∷ mid) .next) b

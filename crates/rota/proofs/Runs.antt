@@ -31,25 +31,25 @@ module _ (n : ℕ) (p : Plan) (s : Sound places n p) where
   unfolding unbroken
   rota-unbroken = rw (lt-ltb (p .next) n (s .inside)) (said-sound places n (p .asks) (s .few) (s .low) (s .once))
 
-  pub asked-is : (b : ℕ) → rotaAsked n (rotaOf p) b ≡ answerBy p b (askRefusal places n p b)
+  pub rota-asked-is : (b : ℕ) → rotaAsked n (rotaOf p) b ≡ answerBy p b (askRefusal places n p b)
   unfolding rotaAsked askNumber
-  asked-is b = rw (rota-unbroken, list-said places (p .asks))
+  rota-asked-is b = rw (rota-unbroken, list-said places (p .asks))
 
-  pub turned-is : rotaTurned n (rotaOf p) ≡ record { due = due p; rota = rotaOf (movedOn n p) }
+  pub rota-turned-is : rotaTurned n (rotaOf p) ≡ record { due = due p; rota = rotaOf (movedOn n p) }
   unfolding rotaTurned turnNumber
-  turned-is = rw (rota-unbroken, list-said places (p .asks))
+  rota-turned-is = rw (rota-unbroken, list-said places (p .asks))
 
-  asked-rota : (b : ℕ) → rotaAsked n (rotaOf p) b .rota ≡ rotaOf (askAfter places n p b)
+  rota-asked-rota : (b : ℕ) → rotaAsked n (rotaOf p) b .rota ≡ rotaOf (askAfter places n p b)
   unfolding askAfter
-  asked-rota b = ap (λ (a : RotaAsked). a .rota) (asked-is b) ∙ go (askRefusal places n p b)
+  rota-asked-rota b = ap (λ (a : RotaAsked). a .rota) (rota-asked-is b) ∙ go (askRefusal places n p b)
     where
       go : (v : ℕ) → answerBy p b v .rota ≡ rotaOf (ifZero v (joined p b) p)
       go zero = refl
       go (suc v) = refl
 
   -- an ask that is given a place is not refused, and the place is the plan's
-  pub asked-given : (b k : ℕ) → rotaAsked n (rotaOf p) b .place ≡ Given k → (askRefusal places n p b ≡ 0) × (askPlace p b ≡ k)
-  asked-given b k e = go (askRefusal places n p b) refl (rw asked-is at e)
+  pub rota-asked-given : (b k : ℕ) → rotaAsked n (rotaOf p) b .place ≡ Given k → (askRefusal places n p b ≡ 0) × (askPlace p b ≡ k)
+  rota-asked-given b k e = go (askRefusal places n p b) refl (rw rota-asked-is at e)
     where
       go : (v : ℕ) → askRefusal places n p b ≡ v → answerBy p b v .place ≡ Given k → (askRefusal places n p b ≡ 0) × (askPlace p b ≡ k)
       go zero z e = (z, cc)
@@ -91,8 +91,8 @@ module _ {Other : Type 0} where
     run-sound (x ∷ l) p s = run-sound l (planStep x p) (step-sound x p s)
 
     pub step-runs : (x : Step Other) (p : Plan) → Sound places n p → rotaStep n x (rotaOf p) ≡ rotaOf (planStep x p)
-    step-runs (ask b) p s = asked-rota n p s b
-    step-runs turn p s = ap (λ (t : RotaTurned). t .rota) (turned-is n p s)
+    step-runs (ask b) p s = rota-asked-rota n p s b
+    step-runs turn p s = ap (λ (t : RotaTurned). t .rota) (rota-turned-is n p s)
     step-runs (other x) p s = refl
 
     pub run-runs : (l : List (Step Other)) (p : Plan) → Sound places n p → rotaRun n l (rotaOf p) ≡ rotaOf (planRun l p)
@@ -113,4 +113,4 @@ module _ {Other : Type 0} where
       rota-runs l = run-runs l start (start-sound places n some)
 
       pub due-runs : (l : List (Step Other)) → dueAt n l ≡ due (planAt l)
-      due-runs l = ap (λ (r : Rota). rotaTurned n r .due) (rota-runs l) ∙ ap (λ (t : RotaTurned). t .due) (turned-is n (planAt l) (plan-sound l))
+      due-runs l = ap (λ (r : Rota). rotaTurned n r .due) (rota-runs l) ∙ ap (λ (t : RotaTurned). t .due) (rota-turned-is n (planAt l) (plan-sound l))

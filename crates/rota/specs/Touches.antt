@@ -22,7 +22,7 @@ module _ {Data Flip : Type 0} where
   overwritten block old nothing = old
 
   abbrev pub meant : ℕ → Data → Step (Touch Data Flip) → Data
-  meant block old (ask asked) = old
+  meant block old (ask wanted) = old
   meant block old turn = old
   meant block old (other touch) = overwritten block old touch
 

@@ -2,7 +2,7 @@
 use Prim.Native.Nat.{ℕ, zero, suc}
 use mathlib.Core.Path.{_≡_, refl, sym, ap}
 use native.Mathlib.Omega.{arith}
-use Rattle.block.proofs.Verdicts.{verdict-words-some, verdict-words-apart}
+use Rattle.block.proofs.Verdicts.{verdict-words-some, verdict-words-told}
 use Rattle.store.specs.declared.Answer.{Answer}
 use Rattle.store.specs.declared.Answer.the-variants.{Refused, Stored, Found}
 use Rattle.store.specs.Answer.{answerNumber, answerWords, answered}
@@ -13,16 +13,16 @@ Proper (Refused number) = number ≡ 0 → ⊥
 Proper Stored = Unit {0}
 Proper (Found verdict) = Unit {0}
 
-pub answers-apart : (a b : Answer) → Proper a → Proper b → answerNumber a ≡ answerNumber b → answerWords a ≡ answerWords b → a ≡ b
-answers-apart (Refused m) (Refused n) p q e w = ap Refused e
-answers-apart (Refused m) Stored p q e w = absurd (p e)
-answers-apart (Refused m) (Found v) p q e w = absurd (p e)
-answers-apart Stored (Refused n) p q e w = absurd (q (omega arith))
-answers-apart Stored Stored p q e w = refl
-answers-apart Stored (Found v) p q e w = absurd (verdict-words-some v (sym w))
-answers-apart (Found u) (Refused n) p q e w = absurd (q (omega arith))
-answers-apart (Found u) Stored p q e w = absurd (verdict-words-some u w)
-answers-apart (Found u) (Found v) p q e w = ap Found (verdict-words-apart u v w)
+pub answers-told : (a b : Answer) → Proper a → Proper b → answerNumber a ≡ answerNumber b → answerWords a ≡ answerWords b → a ≡ b
+answers-told (Refused m) (Refused n) p q e w = ap Refused e
+answers-told (Refused m) Stored p q e w = absurd (p e)
+answers-told (Refused m) (Found v) p q e w = absurd (p e)
+answers-told Stored (Refused n) p q e w = absurd (q (omega arith))
+answers-told Stored Stored p q e w = refl
+answers-told Stored (Found v) p q e w = absurd (verdict-words-some v (sym w))
+answers-told (Found u) (Refused n) p q e w = absurd (q (omega arith))
+answers-told (Found u) Stored p q e w = absurd (verdict-words-some u w)
+answers-told (Found u) (Found v) p q e w = ap Found (verdict-words-told u v w)
 
 -- ---- a call that is refused: its number is the answer
 

@@ -3,14 +3,15 @@
 ghost use mathlib.Core.Path.{_≡_};
 ghost use Prim.Native.Nat.{_≤_};
 ghost use lib.ListN.{length};
-ghost use Rattle.block.specs.Shape.{rows};
+ghost use Rattle.block.specs.Shape.{mostRows, rows};
 ghost use Rattle.store.specs.Inner.{Inside, strideRead, strideWrite};
+use block::MOST_ROWS;
 use block::Shape;
 use block::rows;
 
 // The words at `at`, `at + s`, `at + 2 s`, .., `rows` of them, into the first of the block.
-fn take_rows(image: &[u32], rows: usize, at: usize, s: usize, block: &mut [u32; 72])
-    requires { ⌜ (rows ≤ 72) × Inside (length (now image)) rows at s ⌝ }
+fn take_rows(image: &[u32], rows: usize, at: usize, s: usize, block: &mut [u32; MOST_ROWS])
+    requires { ⌜ (rows ≤ mostRows) × Inside (length (now image)) rows at s ⌝ }
     ensures { λ r. ⌜ now (block .exit) ≡ strideRead (now (image .entry)) at s (now (block .entry)) rows ⌝ }
 {
     let mut i = at;
@@ -21,8 +22,8 @@ fn take_rows(image: &[u32], rows: usize, at: usize, s: usize, block: &mut [u32; 
 }
 
 // As take_rows, with the stride as a constant where the words are neighbours: the compiler copies them many at a time.
-fn take(image: &[u32], rows: usize, at: usize, s: usize, block: &mut [u32; 72])
-    requires { ⌜ (rows ≤ 72) × Inside (length (now image)) rows at s ⌝ }
+fn take(image: &[u32], rows: usize, at: usize, s: usize, block: &mut [u32; MOST_ROWS])
+    requires { ⌜ (rows ≤ mostRows) × Inside (length (now image)) rows at s ⌝ }
     ensures { λ r. ⌜ now (block .exit) ≡ strideRead (now (image .entry)) at s (now (block .entry)) rows ⌝ }
 {
     if s == 1 {
@@ -33,8 +34,8 @@ fn take(image: &[u32], rows: usize, at: usize, s: usize, block: &mut [u32; 72])
 }
 
 // The first `rows` words of the block at `at`, `at + s`, `at + 2 s`, ..
-fn put_rows(image: &mut [u32], rows: usize, at: usize, s: usize, block: &[u32; 72])
-    requires { ⌜ (rows ≤ 72) × Inside (length (now image)) rows at s ⌝ }
+fn put_rows(image: &mut [u32], rows: usize, at: usize, s: usize, block: &[u32; MOST_ROWS])
+    requires { ⌜ (rows ≤ mostRows) × Inside (length (now image)) rows at s ⌝ }
     ensures { λ r. ⌜ now (image .exit) ≡ strideWrite (now (image .entry)) at s (now (block .entry)) rows ⌝ }
 {
     let mut i = at;
@@ -45,8 +46,8 @@ fn put_rows(image: &mut [u32], rows: usize, at: usize, s: usize, block: &[u32; 7
 }
 
 // As put_rows, with the stride as a constant where the words are neighbours.
-fn put(image: &mut [u32], rows: usize, at: usize, s: usize, block: &[u32; 72])
-    requires { ⌜ (rows ≤ 72) × Inside (length (now image)) rows at s ⌝ }
+fn put(image: &mut [u32], rows: usize, at: usize, s: usize, block: &[u32; MOST_ROWS])
+    requires { ⌜ (rows ≤ mostRows) × Inside (length (now image)) rows at s ⌝ }
     ensures { λ r. ⌜ now (image .exit) ≡ strideWrite (now (image .entry)) at s (now (block .entry)) rows ⌝ }
 {
     if s == 1 {
@@ -57,7 +58,7 @@ fn put(image: &mut [u32], rows: usize, at: usize, s: usize, block: &[u32; 72])
 }
 
 // The rows of the block whose first row is at `at`, into the first of the block.
-pub(crate) fn gather(image: &[u32], shape: Shape, at: usize, s: usize, block: &mut [u32; 72])
+pub(crate) fn gather(image: &[u32], shape: Shape, at: usize, s: usize, block: &mut [u32; MOST_ROWS])
     requires { ⌜ Inside (length (now image)) (rows shape) at s ⌝ }
     ensures { λ r. ⌜ now (block .exit) ≡ strideRead (now (image .entry)) at s (now (block .entry)) (rows shape) ⌝ }
 {
@@ -68,7 +69,13 @@ pub(crate) fn gather(image: &[u32], shape: Shape, at: usize, s: usize, block: &m
 }
 
 // The block put where its first row is at `at`.
-pub(crate) fn scatter(image: &mut [u32], shape: Shape, at: usize, s: usize, block: &[u32; 72])
+pub(crate) fn scatter(
+    image: &mut [u32],
+    shape: Shape,
+    at: usize,
+    s: usize,
+    block: &[u32; MOST_ROWS],
+)
     requires { ⌜ Inside (length (now image)) (rows shape) at s ⌝ }
     ensures { λ r. ⌜ now (image .exit) ≡ strideWrite (now (image .entry)) at s (now (block .entry)) (rows shape) ⌝ }
 {

@@ -2,6 +2,7 @@
 ghost use Rattle.store.specs.Read.{Reads};
 use super::Answer;
 use super::copies::gather;
+use block::MOST_ROWS;
 use block::Verdict;
 use layout::Layout;
 use layout::Site;
@@ -15,7 +16,7 @@ pub fn read(image: &[u32], layout: Layout, block: u32, buffer: &mut [u32]) -> An
             if buffer.len() != block::words(shape) {
                 return Answer::Refused(7);
             }
-            let mut rows = [0u32; 72];
+            let mut rows = [0u32; MOST_ROWS];
             gather(image, shape, at, layout.s as usize, &mut rows);
             let verdict = block::decide(shape, &mut rows);
             if let Verdict::Lost(_) = verdict {

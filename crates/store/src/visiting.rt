@@ -9,6 +9,7 @@ ghost use Rattle.store.specs.Visit.{Visits, VisitsAccepted};
 use super::Answer;
 use super::copies::gather;
 use super::copies::scatter;
+use block::MOST_ROWS;
 use block::Shape;
 use block::Verdict;
 use layout::Layout;
@@ -21,7 +22,7 @@ fn mend(image: &mut [u32], shape: Shape, at: usize, s: usize) -> Verdict
     ensures after { λ r. ⌜ now (image .exit) ≡
         strideWrite (now (image .entry)) at s (mendedBlock shape (strideRead (now (image .entry)) at s blank (rows shape))) (rows shape) ⌝ }
 {
-    let mut rows = [0u32; 72];
+    let mut rows = [0u32; MOST_ROWS];
     gather(image, shape, at, s, &mut rows);
     let verdict = block::decide(shape, &mut rows);
     if let Verdict::Mended(_) = verdict {

@@ -8,6 +8,7 @@ ghost use Rattle.patrol.specs.Numbers.{reportNumber, reportWords};
 ghost use Rattle.words.specs.Answers.{visitWidth, reportWidth, withVisit};
 use super::REPORT_WORDS;
 use super::VERDICT_WORDS;
+use super::VISIT_WORDS;
 use block::Verdict;
 use patrol::Report;
 use rota::Place;
@@ -108,7 +109,7 @@ pub fn report_words(report: Report) -> [u32; REPORT_WORDS]
         Report::One(first, verdict) => with_visit(none, 0, first, verdict),
         Report::Two(first, verdict, second, other) => {
             let patrol = with_visit(none, 0, first, verdict);
-            with_visit(patrol, 1 + VERDICT_WORDS, second, other)
+            with_visit(patrol, VISIT_WORDS, second, other)
         }
     }
 }

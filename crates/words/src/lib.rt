@@ -14,8 +14,11 @@ pub use records::record_words;
 // The number of a verdict, and its count.
 pub const VERDICT_WORDS: usize = 2;
 
-// A block and its verdict, twice over.
-pub const REPORT_WORDS: usize = 2 + 2 * VERDICT_WORDS;
+// A block, and its verdict.
+const VISIT_WORDS: usize = 1 + VERDICT_WORDS;
+
+// The patrol's visit, and the ask's.
+pub const REPORT_WORDS: usize = 2 * VISIT_WORDS;
 
 // Shape, s, G, next, how many wait.
 const FRONT_WORDS: usize = 5;

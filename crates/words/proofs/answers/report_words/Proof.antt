@@ -23,9 +23,6 @@ enum-known-report-2 c = search needs
 with-visit-requires-2 : tie.Need-with-visit-requires-2
 with-visit-requires-2 c κs = search needs
 
-add-with-visit : tie.Need-add-with-visit
-add-with-visit c = search needs
-
 with-visit-requires-3 : tie.Need-with-visit-requires-3
 with-visit-requires-3 c κs = search needs
 
@@ -52,7 +49,6 @@ report-words-spec =
     with-visit-requires
     enum-known-report-2
     with-visit-requires-2
-    add-with-visit
     with-visit-requires-3
     returns
     returns-2

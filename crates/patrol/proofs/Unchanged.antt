@@ -22,16 +22,16 @@ use Rattle.patrol.specs.Turn.{patrolled, turnedNow, turnedBy, turned, tu
 use Rattle.patrol.specs.Numbers.{reportNumber}
 use Rattle.patrol.proofs.Numbers.{ask-number, turn-number}
 
-pub format-kept : (image : List ℕ) (layout : Layout) → (formatted image layout .number ≡ 0 → ⊥)
+pub format-unchanged : (image : List ℕ) (layout : Layout) → (formatted image layout .number ≡ 0 → ⊥)
     → (formatted image layout .back ≡ noRecord) × (freshAfter image layout ≡ image)
 unfolding formatted freshAfter
-format-kept image layout ne =
+format-unchanged image layout ne =
     (refused-kept (imageRefusal (length image) layout) _ noRecord ne, refused-kept (imageRefusal (length image) layout) _ image ne)
 
 module _ (r : Record) where
-  pub ask-kept : (block : ℕ) → (placeNumber (asked r block .place) ≡ 0 → ⊥) → asked r block .back ≡ r
+  pub ask-unchanged : (block : ℕ) → (placeNumber (asked r block .place) ≡ 0 → ⊥) → asked r block .back ≡ r
   unfolding asked
-  ask-kept block ne =
+  ask-unchanged block ne =
       go (layoutRefusal (r .layout)) (askNumber (blocks (r .layout)) (r .rota) block) refl (λ z. ne (ask-number r block ∙ z))
     where
       go : (number later : ℕ) → askNumber (blocks (r .layout)) (r .rota) block ≡ later → (number then later ≡ 0 → ⊥) → askedBy r block number .back ≡ r
@@ -40,9 +40,9 @@ module _ (r : Record) where
           ap (λ (a : RotaAsked). withRota r (a .rota)) (rotaNumbers.ask-refused (blocks (r .layout)) (r .rota) block later e)
       go (suc number) later e some = refl
 
-  pub turn-kept : (image : List ℕ) → (reportNumber (turned r image .report) ≡ 0 → ⊥) → (turned r image .back ≡ r) × (turnAfter r image ≡ image)
+  pub turn-unchanged : (image : List ℕ) → (reportNumber (turned r image .report) ≡ 0 → ⊥) → (turned r image .back ≡ r) × (turnAfter r image ≡ image)
   unfolding turned turnAfter
-  turn-kept image ne =
+  turn-unchanged image ne =
       go (imageRefusal (length image) (r .layout)) (turnNumber (blocks (r .layout)) (r .rota)) refl (λ z. ne (turn-number r image ∙ z))
     where
       go : (number later : ℕ) → turnNumber (blocks (r .layout)) (r .rota) ≡ later → (number then later ≡ 0 → ⊥)
