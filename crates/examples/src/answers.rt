@@ -1,39 +1,48 @@
-// What a call answers as eight words: the number, block, verdict and count twice over, and the place.
+// What a call answers as words: its number, a report and a place.
+use crate::lists::scatter;
 use patrol::Report;
 use rota::Place;
 use store::Answer;
+use words::REPORT_WORDS;
+
+// The number stands first, then the report.
+const REPORT_AT: usize = 1;
+
+// The verdict of a call that has no report stands where a report has its first one: after a block.
+const VERDICT_AT: usize = REPORT_AT + 1;
+
+const PLACE_AT: usize = REPORT_AT + REPORT_WORDS;
+
+pub(crate) const ANSWER_WORDS: usize = PLACE_AT + 1;
 
 // The answer of a call that has a number and nothing else.
-pub(crate) fn of_number(number: u32) -> [u32; 8] {
-    [number, 0, 0, 0, 0, 0, 0, 0]
+pub(crate) fn of_number(number: u32) -> [u32; ANSWER_WORDS] {
+    let mut answer = [0u32; ANSWER_WORDS];
+    answer[0] = number;
+    answer
+}
+
+// The answer of this number, with these words from `at` on.
+fn numbered(number: u32, at: usize, words: &[u32]) -> [u32; ANSWER_WORDS] {
+    let mut answer = of_number(number);
+    scatter(words, &mut answer, at, 1);
+    answer
 }
 
 // What write, read and visit answer.
-pub(crate) fn of_answer(answer: Answer) -> [u32; 8] {
-    let number = words::answer_number(answer);
+pub(crate) fn of_answer(answer: Answer) -> [u32; ANSWER_WORDS] {
     let seen = words::answer_words(answer);
-    [number, 0, seen[0], seen[1], 0, 0, 0, 0]
+    numbered(words::answer_number(answer), VERDICT_AT, &seen)
 }
 
 // What an ask answers.
-pub(crate) fn of_place(place: Place) -> [u32; 8] {
-    let number = words::place_number(place);
+pub(crate) fn of_place(place: Place) -> [u32; ANSWER_WORDS] {
     let given = words::place_words(place);
-    [number, 0, 0, 0, 0, 0, 0, given[0]]
+    numbered(words::place_number(place), PLACE_AT, &given)
 }
 
 // What a turn reports.
-pub(crate) fn of_report(report: Report) -> [u32; 8] {
-    let number = words::report_number(report);
+pub(crate) fn of_report(report: Report) -> [u32; ANSWER_WORDS] {
     let seen = words::report_words(report);
-    [
-        number,
-        seen[0],
-        seen[1],
-        seen[2],
-        seen[3],
-        seen[4],
-        seen[5],
-        0,
-    ]
+    numbered(words::report_number(report), REPORT_AT, &seen)
 }

@@ -1,7 +1,14 @@
-// The first eight words of a vector: which call, its arguments, and how many words it is lent.
+// The head of a vector: which call, its arguments, and how many words it is lent.
 use crate::lists::word_at;
 use layout::Layout;
 use words::RECORD_WORDS;
+
+pub(crate) const HEAD_WORDS: usize = 8;
+
+// No vector lends a longer image, or a longer list.
+pub(crate) const IMAGE_WORDS: usize = 145;
+
+pub(crate) const LIST_WORDS: usize = 65;
 
 // The numbers of the calls.
 pub(crate) const FORMAT: u32 = 1;
@@ -21,9 +28,9 @@ pub(crate) struct Head {
     pub(crate) layout: Layout,
     pub(crate) block: u32,
     // The words of the image, of the data list or buffer, and of the record.
-    pub(crate) image: u32,
-    pub(crate) list: u32,
-    pub(crate) back: u32,
+    pub(crate) image: usize,
+    pub(crate) list: usize,
+    pub(crate) record: usize,
 }
 
 impl Head {
@@ -38,35 +45,26 @@ impl Head {
             call: word_at(vector, 0),
             layout,
             block: word_at(vector, 4),
-            image: word_at(vector, 5),
-            list: word_at(vector, 6),
-            back: word_at(vector, 7),
+            image: word_at(vector, 5) as usize,
+            list: word_at(vector, 6) as usize,
+            record: word_at(vector, 7) as usize,
         }
     }
 
     // Whether no more is lent than this of an image and a list, and a record of just this length.
-    fn lends(self, image: u32, list: u32, back: usize) -> bool {
-        (self.image <= image) & (self.list <= list) & (self.back as usize == back)
+    fn lends(self, image: usize, list: usize, record: usize) -> bool {
+        (self.image <= image) & (self.list <= list) & (self.record == record)
     }
 
     // Whether the call is one of the six and is lent what it may be.
     pub(crate) fn fits(self) -> bool {
         let call = self.call;
         match call {
-            FORMAT | TURN => self.lends(145, 0, RECORD_WORDS),
-            WRITE | READ => self.lends(145, 65, 0),
-            VISIT => self.lends(145, 0, 0),
+            FORMAT | TURN => self.lends(IMAGE_WORDS, 0, RECORD_WORDS),
+            WRITE | READ => self.lends(IMAGE_WORDS, LIST_WORDS, 0),
+            VISIT => self.lends(IMAGE_WORDS, 0, 0),
             ASK => self.lends(0, 0, RECORD_WORDS),
             _ => false,
-        }
-    }
-
-    // The words that are lent beside the image: a list and a record are never both there.
-    pub(crate) fn beside(self) -> usize {
-        if self.list == 0 {
-            self.back as usize
-        } else {
-            self.list as usize
         }
     }
 }

@@ -1,5 +1,14 @@
 // Vectors from standard input: a count and then as many words, the most significant byte first.
+use crate::answers::ANSWER_WORDS;
+use crate::heads::HEAD_WORDS;
+use crate::heads::IMAGE_WORDS;
+use crate::heads::LIST_WORDS;
 use libc::STDIN_FILENO;
+
+// The longest vector: its head, what is lent, the answer, and what is left of what was lent.
+pub(crate) const VECTOR_WORDS: usize = HEAD_WORDS + ANSWER_WORDS + 2 * (IMAGE_WORDS + LIST_WORDS);
+
+const VECTOR_BYTES: usize = 4 * VECTOR_WORDS;
 
 // What comes next: the words of a vector, as many as it says, one that is too long or cut off, or none.
 pub(crate) enum Input {
@@ -18,9 +27,9 @@ fn word(a: u8, b: u8, c: u8, d: u8) -> u32 {
 }
 
 // The words of these bytes.
-fn unpack(bytes: &[u8; 1744], words: &mut [u32; 436]) {
+fn unpack(bytes: &[u8; VECTOR_BYTES], words: &mut [u32; VECTOR_WORDS]) {
     let mut i = 0;
-    while i < 436 {
+    while i < VECTOR_WORDS {
         let at = i * 4;
         words[i] = word(bytes[at], bytes[at + 1], bytes[at + 2], bytes[at + 3]);
         i += 1;
@@ -28,19 +37,20 @@ fn unpack(bytes: &[u8; 1744], words: &mut [u32; 436]) {
 }
 
 // Reads so many words, and says whether they were there.
-fn read_words(count: u32, words: &mut [u32; 436]) -> bool {
-    if 436 < count {
+fn read_words(count: u32, words: &mut [u32; VECTOR_WORDS]) -> bool {
+    let many = count as usize;
+    if VECTOR_WORDS < many {
         return false;
     }
-    let size = (count as usize) * 4;
-    let mut bytes = [0u8; 1744];
+    let size = many * 4;
+    let mut bytes = [0u8; VECTOR_BYTES];
     let got = io::read_full(STDIN_FILENO, &mut bytes[0..size]);
     unpack(&bytes, words);
     got == size
 }
 
 // Reads the next vector.
-pub(crate) fn read_vector(words: &mut [u32; 436]) -> Input {
+pub(crate) fn read_vector(words: &mut [u32; VECTOR_WORDS]) -> Input {
     if read_words(1, words) {
         let count = words[0];
         if count == 0 {

@@ -1,15 +1,8 @@
-// Lists of words: one set, parts of them, copies, and whether two are the same.
+// Lists of words: parts of them, copies, and whether two are the same.
 
 // The word at an index, or 0 past the end.
 pub(crate) fn word_at(words: &[u32], i: usize) -> u32 {
     if i < words.len() { words[i] } else { 0 }
-}
-
-// Sets the word at an index, if there is one.
-fn put(words: &mut [u32], i: usize, word: u32) {
-    if i < words.len() {
-        words[i] = word;
-    }
 }
 
 // The first `count` words, or none where there are fewer.
@@ -36,13 +29,23 @@ pub(crate) fn after(words: &[u32], count: usize) -> &[u32] {
     &words[0..0]
 }
 
+// Copies words to `at`, `at + s`, `at + 2 s` and so on, as far as there are such.
+pub(crate) fn scatter(from: &[u32], to: &mut [u32], at: usize, s: u32) {
+    let mut i = at;
+    let mut k = 0;
+    while k < from.len() {
+        if to.len() <= i {
+            return;
+        }
+        to[i] = from[k];
+        i += s as usize;
+        k += 1;
+    }
+}
+
 // Copies as many words as both have.
 pub(crate) fn copy(from: &[u32], to: &mut [u32]) {
-    let mut i = 0;
-    while i < from.len() {
-        put(to, i, from[i]);
-        i += 1;
-    }
+    scatter(from, to, 0, 1);
 }
 
 // Whether two lists have the same words.

@@ -1,13 +1,19 @@
 // Stored vectors: each call is run, and what it answers and leaves is compared.
+use crate::answers::ANSWER_WORDS;
 use crate::calls::run;
+use crate::heads::HEAD_WORDS;
 use crate::heads::Head;
+use crate::heads::IMAGE_WORDS;
+use crate::heads::LIST_WORDS;
 use crate::input::Input;
+use crate::input::VECTOR_WORDS;
 use crate::input::read_vector;
 use crate::lists::after;
 use crate::lists::copy;
 use crate::lists::first;
 use crate::lists::lent;
 use crate::lists::same;
+use words::RECORD_WORDS;
 
 // How many vectors there were, and how many agree.
 pub(crate) struct Tally {
@@ -23,50 +29,55 @@ enum Outcome {
     End,
 }
 
-// Whether a call answered and left what is expected, and no more is expected.
-fn left(expected: &[u32], answer: [u32; 8], image: &[u32], beside: &[u32]) -> bool {
-    let words = after(expected, 8);
-    same(first(expected, 8), &answer)
+// Whether the call answers what is expected, leaves it of what it is lent, and no more is expected.
+fn leaves(
+    head: Head,
+    image: &mut [u32],
+    list: &mut [u32],
+    record: &mut [u32; RECORD_WORDS],
+    expected: &[u32],
+) -> bool {
+    let answer = run(head, image, list, record);
+    let words = after(expected, ANSWER_WORDS);
+    let beside = after(words, image.len());
+    same(first(expected, ANSWER_WORDS), &answer)
         & same(first(words, image.len()), image)
-        & same(after(words, image.len()), beside)
-}
-
-// Whether the call answers what is expected, and leaves it of what it is lent.
-fn leaves(head: Head, image: &mut [u32], beside: &mut [u32], expected: &[u32]) -> bool {
-    let answer = run(head, image, beside);
-    left(expected, answer, image, beside)
+        & same(first(beside, list.len()), list)
+        & same(after(beside, list.len()), first(record, head.record))
 }
 
 // Whether the call does so on copies of the words that follow the head.
 fn follows(head: Head, words: &[u32]) -> bool {
-    let mut image = [0u32; 145];
-    let mut beside = [0u32; 65];
-    let in_image = head.image as usize;
-    let in_beside = head.beside();
-    let others = after(words, in_image);
+    let mut image = [0u32; IMAGE_WORDS];
+    let mut list = [0u32; LIST_WORDS];
+    let mut record = [0u32; RECORD_WORDS];
+    // A list and a record are never both lent, so either starts here.
+    let beside = after(words, head.image);
     copy(words, &mut image);
-    copy(others, &mut beside);
+    copy(beside, &mut list);
+    copy(beside, &mut record);
     leaves(
         head,
-        lent(&mut image, in_image),
-        lent(&mut beside, in_beside),
-        after(others, in_beside),
+        lent(&mut image, head.image),
+        lent(&mut list, head.list),
+        &mut record,
+        after(after(beside, head.list), head.record),
     )
 }
 
 // Whether the first `count` words are a vector whose call answers and leaves what it says.
-fn agrees(words: &[u32; 436], count: u32) -> bool {
+fn agrees(words: &[u32; VECTOR_WORDS], count: u32) -> bool {
     let vector = first(words, count as usize);
     let head = Head::of(vector);
     if head.fits() {
-        return follows(head, after(vector, 8));
+        return follows(head, after(vector, HEAD_WORDS));
     }
     false
 }
 
 // Reads the next vector and runs it.
 fn run_next() -> Outcome {
-    let mut words = [0u32; 436];
+    let mut words = [0u32; VECTOR_WORDS];
     match read_vector(&mut words) {
         Input::Words(count) => {
             if agrees(&words, count) {

@@ -1,25 +1,27 @@
 // Worked examples 5 to 11: what a visit finds, and what it leaves.
 use crate::answers::of_answer;
 use crate::lists::same;
+use block::Verdict;
 use layout::Layout;
+use store::Answer;
 
-// Whether a visit of the only block of an image finds this verdict and count, and leaves these words.
-fn visit_leaves(image: &mut [u32], shape: u32, verdict: u32, count: u32, after: &[u32]) -> bool {
+// Whether a visit of the only block of an image finds this verdict, and leaves these words.
+fn visit_leaves(image: &mut [u32], shape: u32, verdict: Verdict, after: &[u32]) -> bool {
     let alone = Layout { shape, s: 1, g: 1 };
     let answer = of_answer(store::visit(image, alone, 0));
-    same(&answer, &[0, 0, verdict, count, 0, 0, 0, 0]) & same(image, after)
+    same(&answer, &of_answer(Answer::Found(verdict))) & same(image, after)
 }
 
 // Whether a visit of this block of shape 1 mends so many bits and leaves these rows.
 fn mends(rows: [u32; 16], bits: u32, after: [u32; 16]) -> bool {
     let mut image = rows;
-    visit_leaves(&mut image, 1, 2, bits, &after)
+    visit_leaves(&mut image, 1, Verdict::Mended(bits), &after)
 }
 
 // Whether a visit of this block of shape 1 finds so many lanes lost and leaves every row.
 fn loses(rows: [u32; 16], lanes: u32) -> bool {
     let mut image = rows;
-    visit_leaves(&mut image, 1, 3, lanes, &rows)
+    visit_leaves(&mut image, 1, Verdict::Lost(lanes), &rows)
 }
 
 // Row 5 = 1: mended 1, all zero after.
@@ -64,5 +66,5 @@ pub(crate) fn example_11() -> bool {
     image[8] = 1;
     image[63] = 1;
     let after = image;
-    visit_leaves(&mut image, 2, 3, 1, &after)
+    visit_leaves(&mut image, 2, Verdict::Lost(1), &after)
 }

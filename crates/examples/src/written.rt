@@ -1,7 +1,9 @@
 // Worked examples 1 to 4 and 12: what a write stores, and where.
 use crate::answers::of_answer;
 use crate::lists::same;
+use crate::lists::scatter;
 use layout::Layout;
+use store::Answer;
 
 const ALL: u32 = 0xFFFFFFFF;
 
@@ -16,7 +18,7 @@ fn write_leaves(
     after: &[u32],
 ) -> bool {
     let answer = of_answer(store::write(image, layout, block, list));
-    same(&answer, &[0u32; 8]) & same(image, after)
+    same(&answer, &of_answer(Answer::Stored)) & same(image, after)
 }
 
 // The layout of one block.
@@ -56,29 +58,29 @@ fn last_word_leaves(image: &mut [u32], layout: Layout, block: u32, after: &[u32]
     write_leaves(image, layout, block, &list, after)
 }
 
+// The block of shape 2 for data word 64 = 1: rows 1, 2, 4, 64, 71 and 72 are 1.
+fn last_word_rows() -> [u32; 72] {
+    let mut rows = [0u32; 72];
+    rows[0] = 1;
+    rows[1] = 1;
+    rows[3] = 1;
+    rows[63] = 1;
+    rows[70] = 1;
+    rows[71] = 1;
+    rows
+}
+
 // Shape 2, data word 64 = 1: rows 1, 2, 4, 64, 71 and 72 become 1.
 pub(crate) fn example_4() -> bool {
     let mut image = [0u32; 72];
-    let mut after = [0u32; 72];
-    after[0] = 1;
-    after[1] = 1;
-    after[3] = 1;
-    after[63] = 1;
-    after[70] = 1;
-    after[71] = 1;
-    last_word_leaves(&mut image, alone(2), 0, &after)
+    last_word_leaves(&mut image, alone(2), 0, &last_word_rows())
 }
 
 // Shape 2, s = 6, block 7: row 1 at index 433 and row 72 at 859; rows 2, 4, 64 and 71 lie between.
 pub(crate) fn example_12() -> bool {
     let mut image = [0u32; 864];
     let mut after = [0u32; 864];
-    after[433] = 1;
-    after[439] = 1;
-    after[451] = 1;
-    after[811] = 1;
-    after[853] = 1;
-    after[859] = 1;
+    scatter(&last_word_rows(), &mut after, 433, 6);
     let layout = Layout {
         shape: 2,
         s: 6,

@@ -6,16 +6,16 @@ use Rattle.examples.proofs.patrolled.asks_sixteen.Statement.{statement}
 use Rattle.examples.proofs.patrolled.asks_sixteen.Tie as tie
 
 abbrev Inv-loop : tie.InvT-loop
-Inv-loop back₀ block₀ back block = block ≤ places
+Inv-loop record₀ block₀ «record» block = block ≤ places
 
 abbrev μ-loop : tie.MeasureT-loop
-μ-loop back₀ block₀ back block = places - block
+μ-loop record₀ block₀ «record» block = places - block
 
 loop-holds : tie.Need-loop-holds Inv-loop μ-loop
 loop-holds c = search needs
 
-add-asks : tie.Need-add-asks Inv-loop μ-loop
-add-asks c = search needs
+add-place : tie.Need-add-place Inv-loop μ-loop
+add-place c = search needs
 
 asks-requires : tie.Need-asks-requires Inv-loop μ-loop
 asks-requires c κs = search needs
@@ -42,7 +42,7 @@ asks-sixteen-spec =
     Inv-loop
     μ-loop
     loop-holds
-    add-asks
+    add-place
     asks-requires
     add-block
     loop-less
