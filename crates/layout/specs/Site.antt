@@ -1,5 +1,6 @@
 -- Where a block lies: its shape and the index of its first row, or the refusal. Assumes nothing.
-use Prim.Native.Nat.{ℕ, zero, suc}
+use Prim.Native.Nat.{ℕ}
+use Rattle.ground.specs.Choice.{ifZero}
 use Rattle.block.specs.declared.Shape.{Shape}
 use Rattle.layout.specs.declared.Layout.{Layout}
 use Rattle.layout.specs.declared.Site.{Site}
@@ -9,8 +10,7 @@ use Rattle.layout.specs.Refusal.{blockRefusal}
 
 -- the site, where nothing is refused
 abbrev pub siteIf : ℕ → Shape → ℕ → Site
-siteIf zero shape at = At shape at
-siteIf (suc number) shape at = Nowhere (suc number)
+siteIf number shape at = ifZero number (At shape at) (Nowhere number)
 
 unfoldable pub siteOf : ℕ → Layout → ℕ → Site
 siteOf len layout block = siteIf (blockRefusal len layout block) (shapeOf layout) (index layout block 1)

@@ -7,7 +7,6 @@ use Rattle.ground.proofs.Choices.{refused-kept}
 use Rattle.layout.specs.declared.Layout.{Layout}
 use Rattle.layout.specs.Layout.{layoutOf, blocks}
 use Rattle.layout.specs.Refusal.{layoutRefusal, imageRefusal}
-use Rattle.layout.proofs.Ladder.{geometry}
 use Rattle.rota.specs.declared.Rota.{Rota}
 use Rattle.rota.specs.declared.Place.the-variants.{Refused as NoPlace}
 use Rattle.rota.specs.declared.RotaAsked.{RotaAsked}
@@ -37,9 +36,6 @@ module _ (image : List ℕ) (layout : Layout) (number : ℕ) (after : List ℕ) 
 -- ---- ask
 
 -- the blocks of a layout that is not refused are few
-pub few-blocks : (layout : Layout) → layoutRefusal layout ≡ 0 → blocks layout ≤ 4096
-few-blocks layout e = geometry layout e .n-last
-
 module _ (r : Record) (block number : ℕ) (checked : number ≡ layoutRefusal (r .layout)) where
   pub ask-refused : (number ≡ 0 → ⊥) → record { place = NoPlace number; back = r } ≡ asked r block
   unfolding asked

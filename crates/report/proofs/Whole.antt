@@ -125,8 +125,8 @@ report-short image layout ok few =
 -- ---- the report of a file
 
 -- a file has room for at most 511 blocks
-few-blocks : (bytes : List ℕ) → Accepted bytes → blocks (layoutIn bytes) ≤ 511
-few-blocks bytes ok =
+file-blocks : (bytes : List ℕ) → Accepted bytes → blocks (layoutIn bytes) ≤ 511
+file-blocks bytes ok =
     let size : Shape → ℕ = λ (shape : Shape). 4 * (rows shape * blocks (layoutIn bytes)) in
     ⊎-elim
     (λ e. omega (arith, ok .frame .most, ok .body ∙ ap size (shape-one (layoutIn bytes .shape) e)))
@@ -161,7 +161,7 @@ module _ (bytes : List ℕ) where
       by : (n : ℕ) → fileRefusal bytes ≡ n → length (endToEnd (reportFor (headerIf n found) (wordsIn bytes))) ≤ 16384
       by zero e =
           let ok = accepted bytes e in
-          report-short (wordsIn bytes) (layoutIn bytes) (ok .geometry) (few-blocks bytes ok)
+          report-short (wordsIn bytes) (layoutIn bytes) (ok .geometry) (file-blocks bytes ok)
       by (suc n) e =
           let most = number-most bytes in
           let short = refusal-short (suc n) (omega arith) .few in

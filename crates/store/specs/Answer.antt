@@ -1,7 +1,8 @@
 -- What a call answers, in the specification's numbers. A refusal answers its number, with verdict and count 0. An accepted call answers number 0;
 -- write then answers no verdict and no count, read and visit those of the block. Assumes nothing.
-use Prim.Native.Nat.{ℕ, zero, suc}
+use Prim.Native.Nat.{ℕ}
 use mathlib.Core.List.{List}
+use Rattle.ground.specs.Choice.{ifZero}
 use Rattle.block.specs.declared.Verdict.{Verdict}
 use Rattle.block.specs.declared.Verdict.the-variants.{Clean}
 use Rattle.block.specs.Verdict.{verdictNumber, verdictCount, verdictWords, noVerdict}
@@ -37,5 +38,4 @@ verdictIn (Found verdict) = verdict
 
 -- the answer where nothing is refused, and else the refusal
 abbrev pub answered : ℕ → Answer → Answer
-answered zero answer = answer
-answered (suc number) answer = Refused (suc number)
+answered number answer = ifZero number answer (Refused number)

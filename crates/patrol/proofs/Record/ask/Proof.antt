@@ -3,7 +3,8 @@ use mathlib.Core.Path.{_≡_, sym, _∙_}
 use native.Mathlib.Omega.{arith}
 use borrow.Author.Needs.{needs}
 use Rattle.layout.specs.Refusal.{layoutRefusal}
-use Rattle.patrol.proofs.Calls.{few-blocks, ask-refused, ask-answered}
+use Rattle.layout.proofs.Ladder.{geometry}
+use Rattle.patrol.proofs.Calls.{ask-refused, ask-answered}
 use Rattle.patrol.proofs.Record.ask.Statement.{statement}
 use Rattle.patrol.proofs.Record.ask.Tie as tie
 
@@ -21,7 +22,7 @@ blocks-requires : tie.Need-blocks-requires
 blocks-requires c κs = search needs
 
 cast-ask : tie.Need-cast-ask
-cast-ask c = omega (arith, c .blocks2 .ensures, few-blocks _ (passed (c .before .before)))
+cast-ask c = omega (arith, c .blocks2 .ensures, geometry _ (passed (c .before .before)) .n-last)
 
 ask-requires : tie.Need-ask-requires
 ask-requires c κs = search needs

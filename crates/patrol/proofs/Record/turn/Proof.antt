@@ -4,9 +4,9 @@ use native.Mathlib.Omega.{arith}
 use borrow.Author.Needs.{needs}
 use lib.ListN.{length}
 use Rattle.layout.specs.Refusal.{imageRefusal}
-use Rattle.layout.proofs.Ladder.{image-layout}
+use Rattle.layout.proofs.Ladder.{geometry, image-layout}
 use Rattle.patrol.specs.Turn.{turnedNow}
-use Rattle.patrol.proofs.Calls.{few-blocks, turn-refused, turn-ready, turn-reported}
+use Rattle.patrol.proofs.Calls.{turn-refused, turn-ready, turn-reported}
 use Rattle.patrol.proofs.Record.turn.Statement.{statement}
 use Rattle.patrol.proofs.Record.turn.Tie as tie
 
@@ -33,7 +33,7 @@ blocks-requires : tie.Need-blocks-requires
 blocks-requires c κs = search needs
 
 cast-turn : tie.Need-cast-turn
-cast-turn c = omega (arith, c .blocks2 .ensures, few-blocks _ (image-layout _ _ (passed (c .before .before))))
+cast-turn c = omega (arith, c .blocks2 .ensures, geometry _ (image-layout _ _ (passed (c .before .before))) .n-last)
 
 turn-requires : tie.Need-turn-requires
 turn-requires c κs = search needs
