@@ -25,6 +25,14 @@ use Rattle.block.specs.Verdict.{verdictNumber, verdictCount, verdict, ve
 use Rattle.block.proofs.Verdict.{the-type}
 use Rattle.block.proofs.Blocks.{counted-none, none-kept, mended-kept, mended-lost, unchanged-lanes, changed-odd}
 
+-- ---- by the variants that a test of the code leaves: clean is 0, mended 1, lost 2
+
+abbrev pub NotLost : Verdict → Type 0
+NotLost v = OneOf (0 ∷ 1 ∷ []) (tagOf the-type v)
+
+abbrev pub NotMended : Verdict → Type 0
+NotMended v = OneOf (0 ∷ 2 ∷ []) (tagOf the-type v)
+
 -- ---- by the numbers of lanes lost and bits changed
 
 -- lost: some lane is
@@ -33,13 +41,13 @@ some-lost zero zero m e z = let w : _≡_ {A = ℕ} 0 1 = cc in omega arith
 some-lost zero (suc changed) m e z = let w : _≡_ {A = ℕ} 0 1 = cc in omega arith
 some-lost (suc lost) changed m e z = omega arith
 
--- not lost, by the variants that the code's test leaves (clean is 0, mended 1, lost 2): no lane is
-none-lost : (lost changed : ℕ) → OneOf (0 ∷ 1 ∷ []) (tagOf the-type (verdict lost changed)) → lost ≡ 0
+-- not lost: no lane is
+none-lost : (lost changed : ℕ) → NotLost (verdict lost changed) → lost ≡ 0
 none-lost zero changed keys = refl
 none-lost (suc lost) changed keys = absurd (miss (0 ∷ 1 ∷ []) 2 tt keys)
 
 -- not mended: where no lane is lost no bit changed
-none-changed : (lost changed : ℕ) → OneOf (0 ∷ 2 ∷ []) (tagOf the-type (verdict lost changed)) → lost ≡ 0 → changed ≡ 0
+none-changed : (lost changed : ℕ) → NotMended (verdict lost changed) → lost ≡ 0 → changed ≡ 0
 none-changed zero zero keys e = refl
 none-changed zero (suc changed) keys e = absurd (miss (0 ∷ 2 ∷ []) 1 tt keys)
 none-changed (suc lost) changed keys e = absurd (omega arith)
@@ -126,16 +134,16 @@ module _ (shape : Shape) (block : List ℕ) where
     unfolding verdictOf
     lost-some m l = some-lost (lanesLost shape block) _ m (sym says ∙ l)
 
-    pub not-lost : OneOf (0 ∷ 1 ∷ []) (tagOf the-type v) → lanesLost shape block ≡ 0
+    pub not-lost : NotLost v → lanesLost shape block ≡ 0
     unfolding verdictOf
-    not-lost keys = none-lost (lanesLost shape block) _ (subst (λ (w : Verdict). OneOf (0 ∷ 1 ∷ []) (tagOf the-type w)) says keys)
+    not-lost keys = none-lost (lanesLost shape block) _ (subst NotLost says keys)
 
-    pub not-mended : rows shape ≤ length block → OneOf (0 ∷ 2 ∷ []) (tagOf the-type v) → mendedBlock shape block ≡ block
+    pub not-mended : rows shape ≤ length block → NotMended v → mendedBlock shape block ≡ block
     unfolding verdictOf
     not-mended long keys = by (lanesLost shape block) refl
       where
         by : (n : ℕ) → lanesLost shape block ≡ n → mendedBlock shape block ≡ block
         by zero e =
             clean-left long e
-            (none-changed (lanesLost shape block) _ (subst (λ (w : Verdict). OneOf (0 ∷ 2 ∷ []) (tagOf the-type w)) says keys) e)
+            (none-changed (lanesLost shape block) _ (subst NotMended says keys) e)
         by (suc n) e = mended-lost shape block n e

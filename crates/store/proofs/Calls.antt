@@ -4,8 +4,7 @@ use mathlib.Core.Path.{_≡_, refl, sym, ap, ap₂, _∙_}
 use mathlib.Core.List.{List, [], _∷_}
 use native.Mathlib.Omega.{arith}
 use lib.ListN.{length, getD}
-use types.Run.{OneOf, hit}
-use denote.Enum.Declared.{tagOf}
+use types.Run.{hit}
 use Rattle.block.specs.declared.Shape.{Shape}
 use Rattle.block.specs.declared.Verdict.{Verdict}
 use Rattle.block.specs.declared.Verdict.the-variants.{Clean, Lost}
@@ -14,7 +13,6 @@ use Rattle.block.specs.Words.{row}
 use Rattle.ground.proofs.Stores.{length-stores, stores-hit}
 use Rattle.block.specs.Block.{blank, validBlock, mendedBlock, dataInto, dataOf}
 use Rattle.block.specs.Verdict.{verdictOf}
-use Rattle.block.proofs.Verdict.{the-type}
 use Rattle.ground.proofs.Lists.{list-is}
 use Rattle.store.specs.declared.Answer.{Answer}
 use Rattle.store.specs.declared.Answer.the-variants.{Refused, Stored, Found}
@@ -34,7 +32,7 @@ use Rattle.store.proofs.Answers.{answered-refused}
 use Rattle.store.proofs.Image.{gathered-stride, placed-stride}
 use Rattle.store.proofs.Located.{list-fits}
 use Rattle.store.proofs.Strides.{left}
-use Rattle.block.proofs.Told.{lost-some, not-lost}
+use Rattle.block.proofs.Told.{NotLost, lost-some, not-lost}
 
 -- a buffer of the exact length holds the data words alone
 data-fills : (shape : Shape) (block buffer : List ℕ) → length buffer ≡ words shape → dataInto shape block buffer ≡ dataOf shape block
@@ -119,7 +117,7 @@ module _ (image : List ℕ) {layout : Layout} {block : ℕ} {shape : Shape} {at 
                 (sym (refused-kept _ _ buffer (lost-some (shapeOf layout) (gathered layout block image) v judged m l)));
           }
 
-      pub read-data : OneOf (0 ∷ 1 ∷ []) (tagOf the-type v) → (mended after : List ℕ) → mended ≡ mendedBlock shape found → after ≡ dataInto shape mended buffer
+      pub read-data : NotLost v → (mended after : List ℕ) → mended ≡ mendedBlock shape found → after ≡ dataInto shape mended buffer
           → Reads image layout block buffer (Found v) after
       unfolding readBuffer mendedData
       read-data keys mended after e a =

@@ -2,12 +2,10 @@
 use Prim.Native.Nat.{ℕ, _+_, _*_, _≤_, _<_}
 use mathlib.Core.Bool.{true}
 use mathlib.Core.Path.{_≡_, sym, ap, _∙_}
-use mathlib.Core.List.{List, [], _∷_}
+use mathlib.Core.List.{List}
 use native.Mathlib.Omega.{arith}
 use lib.ListN.{length, getD, drop, length-drop}
 use lib.Seq.{getD-drop}
-use types.Run.{OneOf}
-use denote.Enum.Declared.{tagOf}
 use Rattle.block.specs.declared.Shape.{Shape}
 use Rattle.block.specs.declared.Verdict.{Verdict}
 use Rattle.block.specs.declared.Verdict.the-variants.{Clean}
@@ -15,12 +13,11 @@ use Rattle.block.specs.Shape.{rows}
 use Rattle.ground.proofs.Stores.{length-stores, stores-hit, stores-same}
 use Rattle.block.specs.Block.{blank, mendedBlock}
 use Rattle.block.specs.Verdict.{verdictOf, validFrom}
-use Rattle.block.proofs.Verdict.{the-type}
 use Rattle.block.proofs.Judged.{rows-fit}
 use Rattle.block.proofs.Looked.{valid-fits, valid-clean}
 use Rattle.store.specs.Inner.{strideRead, strideWrite}
 use Rattle.store.proofs.Rows.{same-verdict}
-use Rattle.block.proofs.Told.{not-mended}
+use Rattle.block.proofs.Told.{NotMended, not-mended}
 
 module _ (image : List ℕ) (shape : Shape) (at s : ℕ) where
   read-size : length (strideRead image at s blank (rows shape)) ≡ 72
@@ -36,7 +33,7 @@ module _ (image : List ℕ) (shape : Shape) (at s : ℕ) where
       stores-hit blank (λ k. k) (λ k. getD image (at + k * s) 0) k (rows shape) (λ j l e. e) h (omega (arith, rows-fit shape))
 
   -- rows that are not mended are left as they are
-  pub left : (v : Verdict) → v ≡ verdictOf shape (strideRead image at s blank (rows shape)) → OneOf (0 ∷ 2 ∷ []) (tagOf the-type v)
+  pub left : (v : Verdict) → v ≡ verdictOf shape (strideRead image at s blank (rows shape)) → NotMended v
       → image ≡ strideWrite image at s (mendedBlock shape (strideRead image at s blank (rows shape))) (rows shape)
   unfolding strideWrite
   left v says keys =
