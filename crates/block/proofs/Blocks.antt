@@ -17,8 +17,8 @@ use Rattle.lane.proofs.Linear.{count-same, valid-same}
 use Rattle.lane.proofs.Distance.{never-two}
 use Rattle.lane.proofs.Rows.{split-below}
 use Rattle.lane.proofs.Mended.{mended-valid, mended-count, mended-near, near-kept}
-use Rattle.block.specs.declared.Shape.{Shape}
-use Rattle.block.specs.Shape.{before, rows}
+use Rattle.shape.specs.declared.Shape.{Shape}
+use Rattle.shape.specs.Shape.{before, rows}
 use Rattle.ground.specs.Totals.{total}
 use Rattle.ground.specs.Choice.{ifZero}
 use Rattle.block.specs.Words.{lane, word}

@@ -10,9 +10,9 @@ use lib.ListN.{length, getD, set}
 use lib.Pow.{pow-pos}
 use borrow.Author.Tests.{ltb-true}
 use Rattle.lane.specs.Bit.{bit, pick}
-use Rattle.block.specs.declared.Shape.{Shape}
+use Rattle.shape.specs.declared.Shape.{Shape}
 use Rattle.block.specs.declared.Verdict.the-variants.{Mended, Lost}
-use Rattle.block.specs.Shape.{before, rows}
+use Rattle.shape.specs.Shape.{before, rows}
 use Rattle.ground.specs.Totals.{total}
 use Rattle.block.specs.Block.{dataBlock, validBlock, mendedBlock}
 use Rattle.block.specs.Verdict.{verdictOf}
@@ -20,7 +20,8 @@ use Rattle.block.specs.Inner.{sumsOf, anyOf, lostLanes, flippedIn, xorAl
 use Rattle.ground.proofs.Bools.{both}
 use Rattle.ground.proofs.Lists.{getD-listOf}
 use Rattle.block.proofs.Lanes.{ones-total}
-use Rattle.block.proofs.Judged.{rows-fit, lost-lt, lost-verdict, lost-block, mended-verdict, mended-block}
+use Rattle.shape.proofs.Sizes.{rows-fit}
+use Rattle.block.proofs.Judged.{lost-lt, lost-verdict, lost-block, mended-verdict, mended-block}
 use Rattle.block.proofs.Encoding.{xor-over-lt, built}
 
 -- every word of a list fits in 32 bits

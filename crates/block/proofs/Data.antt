@@ -10,9 +10,10 @@ use lib.ListN.{length, getD, getD-replicate, List·getD-eq-default}
 use lib.Pow.{pow-pos}
 use Rattle.lane.specs.Rows.{power?, DataRow, rowsWhere}
 use Rattle.lane.proofs.Rows.{row-passes, row-there, rows-rise, data-row, data-fails, split-below}
-use Rattle.block.specs.declared.Shape.{Shape}
-use Rattle.block.specs.declared.Shape.the-variants.{One, Two}
-use Rattle.block.specs.Shape.{before, digits, dataRowsOf, words}
+use Rattle.shape.specs.declared.Shape.{Shape}
+use Rattle.shape.specs.declared.Shape.the-variants.{One, Two}
+use Rattle.shape.proofs.Sizes.{before-lt}
+use Rattle.shape.specs.Shape.{before, digits, dataRowsOf, words}
 use Rattle.ground.proofs.Stores.{length-stores, stores-hit, stores-miss, stores-all}
 use Rattle.block.specs.Block.{blank, dataBlock}
 
@@ -20,10 +21,6 @@ use Rattle.block.specs.Block.{blank, dataBlock}
 pub before-digits : (shape : Shape) → before shape < 2 ^ digits shape
 before-digits One = lit< tt
 before-digits Two = lit< tt
-
-pub before-lt : (shape : Shape) → before shape < 72
-before-lt One = lit< tt
-before-lt Two = lit< tt
 
 -- there are as many data rows as data words
 pub data-count : (shape : Shape) → length (dataRowsOf shape) ≡ words shape

@@ -20,9 +20,9 @@ use Rattle.lane.specs.Encoded.{named, summed, encoded}
 use Rattle.lane.proofs.Bits.{bit-zero, bit-xor, bit-high, bit-ext, ⊕-zero}
 use Rattle.lane.proofs.Rows.{either, split-below, power-found, power-none}
 use Rattle.lane.proofs.Exactly.{sum-lt, named-off, named-on, xorDigits, summed-odd, encoded-data}
-use Rattle.block.specs.declared.Shape.{Shape}
-use Rattle.block.specs.declared.Shape.the-variants.{One, Two}
-use Rattle.block.specs.Shape.{before, rows, digits}
+use Rattle.shape.specs.declared.Shape.{Shape}
+use Rattle.shape.specs.declared.Shape.the-variants.{One, Two}
+use Rattle.shape.specs.Shape.{before, rows, digits}
 use Rattle.block.specs.Words.{row, lane, word}
 use Rattle.ground.proofs.Stores.{length-stores, stores-hit, stores-miss}
 use Rattle.block.specs.Block.{dataBlock, validBlock}
@@ -30,7 +30,8 @@ use Rattle.block.specs.Inner.{xorOver, sumsOf, xorAll, withChecks}
 use Rattle.block.proofs.WordBits.{number-bits}
 use Rattle.ground.proofs.Lists.{getD-listOf, list-is}
 use Rattle.block.proofs.Lanes.{bit-covered, bit-all}
-use Rattle.block.proofs.Data.{before-digits, before-lt, length-data, data-miss, data-lt}
+use Rattle.shape.proofs.Sizes.{before-lt}
+use Rattle.block.proofs.Data.{before-digits, length-data, data-miss, data-lt}
 
 -- the last row of a shape is no power of two among the check rows
 last-no-power : (shape : Shape) (l : ℕ) → l < digits shape → rows shape ≡ 2 ^ l → ⊥

@@ -8,17 +8,17 @@ use native.Mathlib.Numerals.{add-one}
 use native.Mathlib.Omega.{arith}
 use lib.Bits.{bitXor, bitAnd, bitOr, and-le-l, or-lt}
 use lib.Count.{ones}
-use lib.Dec.{eqb, ltb, leb, eqb·suc-zero, lit<, lit≤}
+use lib.Dec.{eqb, ltb, leb, eqb·suc-zero, lit<}
 use lib.ListN.{length, getD}
 use borrow.Author.Tests.{eqb-true, not-false, leb-true}
 use Rattle.lane.specs.Bit.{bit, pick}
 use Rattle.lane.specs.Lane.{sum, odd}
 use Rattle.lane.specs.Decision.{flipped, lost, decision, decide, lost?, changes}
 use Rattle.lane.proofs.Bits.{bit-zero, bit-and, bit-or, bit-not, bit-ext-below}
-use Rattle.block.specs.declared.Shape.{Shape}
-use Rattle.block.specs.declared.Shape.the-variants.{One, Two}
+use Rattle.shape.specs.declared.Shape.{Shape}
 use Rattle.block.specs.declared.Verdict.the-variants.{Clean, Mended, Lost}
-use Rattle.block.specs.Shape.{before, rows}
+use Rattle.shape.proofs.Sizes.{before-small}
+use Rattle.shape.specs.Shape.{before, rows}
 use Rattle.ground.specs.Totals.{total}
 use Rattle.block.specs.Words.{lane}
 use Rattle.block.specs.Block.{lanesLost, mendedLanes, mendedBlock, bitsChanged}
@@ -30,14 +30,6 @@ use Rattle.ground.proofs.Bools.{neither}
 use Rattle.block.proofs.WordBits.{number-same}
 use Rattle.block.proofs.Lanes.{bit-all, sum-at, bit-any, bit-above, lost-test, ones-total}
 use Rattle.block.proofs.Blocks.{AllKept, none-counted, counted-none, kept-none, mended-kept, mended-lost, unchanged-lanes, changed-odd}
-
-pub before-small : (shape : Shape) → before shape < 2 ^ 7
-before-small One = lit< tt
-before-small Two = lit< tt
-
-pub rows-fit : (shape : Shape) → rows shape ≤ 72
-rows-fit One = lit≤ tt
-rows-fit Two = lit≤ tt
 
 -- a word with no ones is 0
 no-ones : (w : ℕ) → w < 2 ^ 32 → ones w ≡ 0 → w ≡ 0

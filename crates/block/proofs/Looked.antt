@@ -12,12 +12,12 @@ use lib.ListN.{length, getD, drop}
 use borrow.Author.Tests.{eqb-true, eqb-false, leb-true}
 use Rattle.lane.specs.Bit.{bit}
 use Rattle.lane.specs.Rows.{rowsWhere}
-use Rattle.block.specs.declared.Shape.{Shape}
-use Rattle.block.specs.declared.Shape.the-variants.{One, Two}
+use Rattle.shape.specs.declared.Shape.{Shape}
+use Rattle.shape.specs.declared.Shape.the-variants.{One, Two}
 use Rattle.block.specs.declared.Verdict.{Verdict}
 use Rattle.block.specs.declared.Verdict.the-variants.{Clean, Mended, Lost}
 use Rattle.block.specs.declared.sums.Sums.{Sums}
-use Rattle.block.specs.Shape.{before, rows}
+use Rattle.shape.specs.Shape.{before, rows}
 use Rattle.ground.specs.Lists.{listOf}
 use Rattle.block.specs.Verdict.{clean?, verdictOf, validFrom}
 use Rattle.block.specs.Inner.{sumsOf, sumWords, anyOf, lostLanes}

@@ -8,9 +8,9 @@ use lib.ListN.{length, replicate, set}
 use Rattle.lane.specs.Bit.{bit}
 use Rattle.lane.specs.Lane.{Lane}
 use Rattle.lane.specs.Rows.{rowsWhere, covered}
-use Rattle.block.specs.declared.Shape.{Shape}
-use Rattle.block.specs.declared.Shape.the-variants.{One, Two}
-use Rattle.block.specs.Shape.{before, rows}
+use Rattle.shape.specs.declared.Shape.{Shape}
+use Rattle.shape.specs.declared.Shape.the-variants.{One, Two}
+use Rattle.shape.specs.Shape.{before, rows}
 use Rattle.block.specs.Inner.{xorOver, sumWords, anyOf}
 use Rattle.block.proofs.Lanes.{xor-parts}
 

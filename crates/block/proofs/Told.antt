@@ -15,10 +15,10 @@ use Rattle.lane.specs.Lane.{odd}
 use Rattle.lane.specs.Decision.{decide, decision, lost?, changes}
 use Rattle.lane.proofs.Bits.{pick-one}
 use Rattle.ground.proofs.Totals.{total-few}
-use Rattle.block.specs.declared.Shape.{Shape}
+use Rattle.shape.specs.declared.Shape.{Shape}
 use Rattle.block.specs.declared.Verdict.{Verdict}
 use Rattle.block.specs.declared.Verdict.the-variants.{Clean, Mended, Lost}
-use Rattle.block.specs.Shape.{before, rows}
+use Rattle.shape.specs.Shape.{before, rows}
 use Rattle.block.specs.Words.{lane}
 use Rattle.block.specs.Block.{lanesLost, bitsChanged, mendedBlock}
 use Rattle.block.specs.Verdict.{verdictNumber, verdictCount, verdict, verdictOf}

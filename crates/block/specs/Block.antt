@@ -12,8 +12,8 @@ use Rattle.lane.specs.Lane.{Valid, apart}
 use Rattle.lane.specs.Decision.{decide, lost?, changes}
 use Rattle.lane.specs.Encoded.{encoded}
 use Rattle.ground.specs.Choice.{ifZero}
-use Rattle.block.specs.declared.Shape.{Shape}
-use Rattle.block.specs.Shape.{before, rows, digits, dataRowsOf, words, mostRows}
+use Rattle.shape.specs.declared.Shape.{Shape}
+use Rattle.shape.specs.Shape.{before, rows, digits, dataRowsOf, words, mostRows}
 use Rattle.ground.specs.Totals.{total}
 use Rattle.ground.specs.Stores.{stores}
 use Rattle.ground.specs.Lists.{listOf}

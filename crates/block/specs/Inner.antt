@@ -8,9 +8,9 @@ use lib.Bits.{bitXor, bitAnd, bitOr}
 use lib.Dec.{eqb}
 use Rattle.lane.specs.Bit.{bit}
 use Rattle.lane.specs.Rows.{rowsWhere, covered, allRows}
-use Rattle.block.specs.declared.Shape.{Shape}
+use Rattle.shape.specs.declared.Shape.{Shape}
 use Rattle.block.specs.declared.sums.Sums.{Sums}
-use Rattle.block.specs.Shape.{before, rows, mostRows}
+use Rattle.shape.specs.Shape.{before, rows, mostRows}
 use Rattle.ground.specs.Lists.{listOf}
 use Rattle.ground.specs.Stores.{stores}
 use Rattle.block.specs.Words.{row, number, word}

@@ -1,22 +1,22 @@
 // The valid block for a list of data words, and the data words of a block.
 ghost use mathlib.Core.Path.{_≡_};
 ghost use Prim.Native.Nat.{_-_, _<_};
-ghost use lib.ListN.{length, getD, replicate};
+ghost use lib.ListN.{length, getD};
 ghost use Rattle.ground.specs.Stores.{stores};
-ghost use Rattle.block.specs.Shape.{mostRows};
-ghost use Rattle.block.specs.Block.{dataBlock, validBlock, dataInto};
+ghost use Rattle.shape.specs.Shape.{mostRows};
+ghost use Rattle.block.specs.Block.{blank, dataBlock, validBlock, dataInto};
 ghost use Rattle.block.specs.Inner.{Listed, Rising, copiedInto, xorAll, withChecks};
-use super::MOST_ROWS;
-use super::Shape;
-use super::shapes::rows_before;
 use super::sums::lane_sums;
 use super::tables::*;
 use ground::least;
+use shape::MOST_ROWS;
+use shape::Shape;
+use shape::rows_before;
 
 // The data words in the listed rows, in order, and zero elsewhere.
 fn spread(rows: &[u8], list: &[u32]) -> [u32; MOST_ROWS]
     requires { ⌜ Listed mostRows (now rows) × Rising (now rows) ⌝ }
-    ensures { λ r. ⌜ r ≡ stores (replicate mostRows 0) (λ k. getD (now (rows .entry)) k 0 - 1) (λ k. getD (now (list .entry)) k 0) (length (now (rows .entry))) ⌝ }
+    ensures { λ r. ⌜ r ≡ stores blank (λ k. getD (now (rows .entry)) k 0 - 1) (λ k. getD (now (list .entry)) k 0) (length (now (rows .entry))) ⌝ }
 {
     let n = least(rows.len(), list.len());
     let mut block = [0u32; MOST_ROWS];

@@ -3,15 +3,15 @@ ghost use mathlib.Core.Path.{_≡_};
 ghost use mathlib.Core.Bool.{true};
 ghost use Prim.Native.Nat.{ℕ, _≤_, _<_};
 ghost use Rattle.lane.specs.Bit.{bit};
-ghost use Rattle.block.specs.Shape.{mostRows};
+ghost use Rattle.shape.specs.Shape.{mostRows};
 ghost use Rattle.block.specs.Block.{mendedBlock};
 ghost use Rattle.block.specs.Verdict.{verdictOf};
 ghost use Rattle.block.specs.Inner.{anyOf, aboveOf, sumAt, rowNamed, flippedIn, InDoubt};
-use super::MOST_ROWS;
-use super::Shape;
 use super::Verdict;
-use super::shapes::rows_before;
 use super::sums::lane_sums;
+use shape::MOST_ROWS;
+use shape::Shape;
+use shape::rows_before;
 
 // The lanes whose sum is not 0.
 fn any(digits: &[u32; 7]) -> u32

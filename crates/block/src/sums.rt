@@ -2,12 +2,12 @@
 ghost use mathlib.Core.Path.{_≡_};
 ghost use Prim.Native.Nat.{_+_, _-_, _≤_};
 ghost use lib.ListN.{length, drop, replicate};
-ghost use Rattle.block.specs.Shape.{mostRows, rows};
+ghost use Rattle.shape.specs.Shape.{mostRows, rows};
 ghost use Rattle.block.specs.Verdict.{validFrom};
 ghost use Rattle.block.specs.Inner.{xorOver, Listed, sumsOf, sumWords, anyOf, Looked};
-use super::Shape;
-use super::shapes::rows;
 use super::tables::*;
+use shape::Shape;
+use shape::rows;
 
 // Digit k of every lane's sum as a word, every lane's parity as a word, and the lanes in which any of them is set.
 pub(crate) struct Sums {

@@ -4,11 +4,11 @@ use mathlib.Core.Path.{_≡_, refl, sym, _∙_}
 use mathlib.Core.List.{List}
 use lib.ListN.{length}
 use Rattle.ground.proofs.Choices.{refused-kept}
-use Rattle.block.specs.declared.Shape.{Shape}
-use Rattle.block.specs.Shape.{rows}
+use Rattle.shape.specs.declared.Shape.{Shape}
+use Rattle.shape.specs.Shape.{rows}
 use Rattle.block.specs.Block.{dataOf, lanesLost, mendedBlock, Fitting}
 use Rattle.block.specs.Verdict.{verdictOf}
-use Rattle.block.proofs.Judged.{rows-fit}
+use Rattle.shape.proofs.Sizes.{rows-fit}
 use Rattle.block.proofs.ValidBlocks.{valid-is, holds-data, valid-only}
 use Rattle.layout.specs.declared.Layout.{Layout}
 use Rattle.layout.specs.Layout.{shapeOf}

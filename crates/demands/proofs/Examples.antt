@@ -11,9 +11,9 @@ use Rattle.ground.specs.Stores.{stores}
 use Rattle.ground.specs.Lists.{listOf}
 use Rattle.lane.specs.Bit.{bit}
 use Rattle.lane.specs.Rows.{power?, rowsWhere}
-use Rattle.block.specs.declared.Shape.{Shape}
+use Rattle.shape.specs.declared.Shape.{Shape}
 use Rattle.block.specs.declared.Verdict.{Verdict}
-use Rattle.block.specs.Shape.{before}
+use Rattle.shape.specs.Shape.{before}
 use Rattle.block.specs.Words.{number}
 use Rattle.block.specs.Block.{dataBlock, validBlock, mendedBlock}
 use Rattle.block.specs.Verdict.{verdictOf, verdictWords}

@@ -11,12 +11,12 @@ use Rattle.lane.specs.Bit.{bit, _⊕_}
 use Rattle.lane.specs.Lane.{diff, apart}
 use Rattle.lane.proofs.Distance.{empty}
 use Rattle.lane.proofs.Linear.{count-same}
-use Rattle.block.specs.declared.Shape.{Shape}
-use Rattle.block.specs.Shape.{before, rows, words}
+use Rattle.shape.specs.declared.Shape.{Shape}
+use Rattle.shape.specs.Shape.{before, rows, words}
 use Rattle.block.specs.Words.{lane}
 use Rattle.block.specs.Block.{lanesLost, mendedBlock, validBlock, dataOf, Near, SameRows, Fitting}
 use Rattle.block.proofs.Blocks.{near-none, near-rows, mended-fits}
-use Rattle.block.proofs.Judged.{rows-fit}
+use Rattle.shape.proofs.Sizes.{rows-fit}
 use Rattle.block.proofs.ValidBlocks.{length-valid, valid-out, valid-fits, valid-is}
 use Rattle.layout.specs.declared.Layout.{Layout}
 use Rattle.layout.specs.Layout.{shapeOf, rowsOf, blocks, index}

@@ -5,9 +5,9 @@ use mathlib.Core.Bool.{Bool}
 use mathlib.Core.Path.{_≡_}
 use mathlib.Core.List.{List}
 use Rattle.ground.proofs.Same.{same}
-use Rattle.block.specs.declared.Shape.{Shape}
+use Rattle.shape.specs.declared.Shape.{Shape}
 use Rattle.block.specs.declared.Verdict.{Verdict}
-use Rattle.block.specs.Shape.{rows, words}
+use Rattle.shape.specs.Shape.{before, rows, words}
 use Rattle.block.specs.Block.{validBlock, mendedBlock, dataInto}
 use Rattle.block.specs.Verdict.{verdictOf, validFrom}
 use Rattle.layout.specs.declared.Layout.{Layout}
@@ -38,6 +38,9 @@ pub one-least : (m n : ℕ) {a b : ℕ} → a ≡ min m n → b ≡ min m n → 
 one-least m n p q = same p q
 
 -- ---- block
+
+pub one-rows-before : (shape : Shape) {a b : ℕ} → a ≡ before shape → b ≡ before shape → a ≡ b
+one-rows-before shape p q = same p q
 
 pub one-rows : (shape : Shape) {a b : ℕ} → a ≡ rows shape → b ≡ rows shape → a ≡ b
 one-rows shape p q = same p q

@@ -10,8 +10,8 @@ use Rattle.lane.specs.Bit.{bit, _⊕_}
 use Rattle.lane.specs.Lane.{diff, apart}
 use Rattle.lane.proofs.Linear.{count-same}
 use Rattle.lane.proofs.Mended.{count-empty, ⊕-self}
-use Rattle.block.specs.declared.Shape.{Shape}
-use Rattle.block.specs.Shape.{before, rows, words}
+use Rattle.shape.specs.declared.Shape.{Shape}
+use Rattle.shape.specs.Shape.{before, rows, words}
 use Rattle.block.specs.Words.{row, lane}
 use Rattle.block.specs.Block.{dataOf, SameRows}
 use Rattle.block.proofs.Data.{dataRow, entry-row}

@@ -3,8 +3,8 @@
 use Prim.Native.Nat.{ℕ, zero, suc, _-_}
 use mathlib.Core.List.{List, [], _∷_, _++_}
 use lib.ListN.{set, replicate}
-use Rattle.block.specs.declared.Shape.{Shape}
-use Rattle.block.specs.declared.Shape.the-variants.{One, Two}
+use Rattle.shape.specs.declared.Shape.{Shape}
+use Rattle.shape.specs.declared.Shape.the-variants.{One, Two}
 use Rattle.block.specs.Block.{blank, validBlock, mendedBlock}
 use Rattle.block.specs.Verdict.{verdictOf, verdictWords}
 use Rattle.layout.specs.Layout.{layoutOf, index}

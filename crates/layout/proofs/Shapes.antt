@@ -2,7 +2,7 @@
 use Prim.Native.Nat.{ℕ}
 use mathlib.Core.Path.{_≡_}
 use borrow.Author.Tests.{eq-eqb, ne-eqb}
-use Rattle.block.specs.declared.Shape.the-variants.{One, Two}
+use Rattle.shape.specs.declared.Shape.the-variants.{One, Two}
 use Rattle.layout.specs.Layout.{shapeNumbered}
 
 pub shape-one : (number : ℕ) → number ≡ 1 → shapeNumbered number ≡ One

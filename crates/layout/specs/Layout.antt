@@ -4,9 +4,9 @@
 use Prim.Native.Nat.{ℕ, _+_, _-_, _*_, _/_, _%_}
 use mathlib.Core.Bool.{cond}
 use lib.Dec.{eqb}
-use Rattle.block.specs.declared.Shape.{Shape}
-use Rattle.block.specs.declared.Shape.the-variants.{One, Two}
-use Rattle.block.specs.Shape.{rows, words}
+use Rattle.shape.specs.declared.Shape.{Shape}
+use Rattle.shape.specs.declared.Shape.the-variants.{One, Two}
+use Rattle.shape.specs.Shape.{rows, words}
 use Rattle.layout.specs.declared.Layout.{Layout}
 
 -- the layout of three numbers

@@ -1,7 +1,7 @@
 -- Where a block lies: its shape and the index of its first row, or the refusal. Assumes nothing.
 use Prim.Native.Nat.{ℕ}
 use Rattle.ground.specs.Choice.{ifZero}
-use Rattle.block.specs.declared.Shape.{Shape}
+use Rattle.shape.specs.declared.Shape.{Shape}
 use Rattle.layout.specs.declared.Layout.{Layout}
 use Rattle.layout.specs.declared.Site.{Site}
 use Rattle.layout.specs.declared.Site.the-variants.{Nowhere, At}

@@ -2,7 +2,7 @@
 mod locating;
 mod refusals;
 
-use block::Shape;
+use shape::Shape;
 
 // The number of the shape, the interleave s, and the group count G.
 pub struct Layout {

@@ -3,7 +3,7 @@ ghost use mathlib.Core.Path.{_≡_};
 ghost use Rattle.layout.specs.Site.{siteOf};
 use super::Layout;
 use super::Site;
-use block::rows;
+use shape::rows;
 
 impl Layout {
     // Refusals 1 to 4 and 6, and then the index of the block's first row.

@@ -3,8 +3,8 @@ ghost use mathlib.Core.Path.{_≡_};
 ghost use Rattle.layout.specs.Layout.{shapeOf, blocks};
 ghost use Rattle.layout.specs.Refusal.{layoutRefusal, imageRefusal};
 use super::Layout;
-use block::Shape;
-use block::rows;
+use shape::Shape;
+use shape::rows;
 
 impl Layout {
     // N, how many blocks the groups hold.

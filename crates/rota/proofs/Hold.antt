@@ -103,7 +103,8 @@ module _ {n : ℕ} (M : Memory n) where
 
   -- ---- a step
 
-  module _ (done : List (StepOf M)) (p : Plan) (w : ℕ → M .Data) (m : M .State) (s : Sound places n p) (good : M .Good m) (h : Held (Hurt done (p .next)) w m) where
+  module _ (done : List (StepOf M)) (p : Plan) (w : ℕ → M .Data) (m : M .State)
+      (s : Sound places n p) (good : M .Good m) (h : Held (Hurt done (p .next)) w m) where
     quiet : (x : StepOf M) → tick x 0 ≡ 0 → Held (Hurt (done ++ x ∷ []) (p .next)) w m
     quiet x z u l = kept-map (λ i o. o) (λ q. aged done (p .next) (p .next) (q .wait) x u q (omega arith) (q .off)) (h u l)
 

@@ -54,7 +54,8 @@ module _ {Other : Type 0} where
       ask-served mid t =
           let p = planRun n mid (askAfter places n (planAt n pre) b) in
           let a = plan-append n pre (ask b ∷ mid) start in
-          let s = stands-run n mid (askAfter places n (planAt n pre) b) b (ask-stands places n (planAt n pre) b (turns mid) (given .0) (omega (arith, given .1))) in
+          let first = ask-stands places n (planAt n pre) b (turns mid) (given .0) (omega (arith, given .1)) in
+          let s = stands-run n mid (askAfter places n (planAt n pre) b) b first in
           rw (due-runs n some (pre ++ ask b ∷ mid), rota-runs n some (pre ++ ask b ∷ mid), a) (stands-first (p .next) s)
 
 module _ {n : ℕ} (M : Memory n) (some : 1 ≤ n) where

@@ -52,7 +52,8 @@ module _ {Other : Type 0} (n : ℕ) where
   pub reached : (l : List (Step Other)) (p : Plan) (b j : ℕ) → Sound places n p → b < n → Away n (p .next) b j → j < turns l → Reached p l b
   unfolding planRun turns
   reached [] p b j s h a t = absurd (omega arith)
-  reached (ask c ∷ l) p b j s h a t = later (ask c) p l b (reached l (askAfter places n p c) b j (ask-sound places n p c s) h (rw (ask-adds places n p c .2) a) t)
+  reached (ask c ∷ l) p b j s h a t =
+      later (ask c) p l b (reached l (askAfter places n p c) b j (ask-sound places n p c s) h (rw (ask-adds places n p c .2) a) t)
   reached (turn ∷ l) p b zero s h a t = record { before = []; after = l; split = refl; here = away-zero n (p .next) b (s .inside) a }
   reached (turn ∷ l) p b (suc j) s h a t =
       later turn p l b (reached l (movedOn n p) b j (turn-sound places n p s) h (away-step n (p .next) b j (s .inside) h a) (omega arith))

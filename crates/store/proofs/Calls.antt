@@ -5,10 +5,10 @@ use mathlib.Core.List.{List, [], _∷_}
 use native.Mathlib.Omega.{arith}
 use lib.ListN.{length, getD}
 use types.Run.{hit}
-use Rattle.block.specs.declared.Shape.{Shape}
+use Rattle.shape.specs.declared.Shape.{Shape}
 use Rattle.block.specs.declared.Verdict.{Verdict}
 use Rattle.block.specs.declared.Verdict.the-variants.{Clean, Lost}
-use Rattle.block.specs.Shape.{rows, words, dataRowsOf}
+use Rattle.shape.specs.Shape.{rows, words, dataRowsOf}
 use Rattle.block.specs.Words.{row}
 use Rattle.ground.proofs.Stores.{length-stores, stores-hit}
 use Rattle.block.specs.Block.{blank, validBlock, mendedBlock, dataInto, dataOf}

@@ -6,8 +6,8 @@ use native.Mathlib.Omega.{arith}
 use lib.ListN.{length, getD, replicate, length-replicate}
 use lib.Pow.{pow-pos}
 use Rattle.ground.proofs.Lists.{zeros-at, list-is}
-use Rattle.block.specs.declared.Shape.{Shape}
-use Rattle.block.specs.Shape.{before, rows, words}
+use Rattle.shape.specs.declared.Shape.{Shape}
+use Rattle.shape.specs.Shape.{before, rows, words}
 use Rattle.block.specs.Words.{row}
 use Rattle.block.specs.Block.{validBlock, dataOf, SameRows, Fitting}
 use Rattle.block.proofs.Data.{dataRow, entry-row}

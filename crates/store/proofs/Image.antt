@@ -11,7 +11,7 @@ use Rattle.block.specs.Block.{blank, Fitting}
 use Rattle.ground.proofs.Lists.{zeros-at}
 use Rattle.ground.proofs.Stores.{length-stores, stores-miss, stores-hit, stores-agree, stores-same, stores-all}
 use Rattle.ground.specs.Stores.{stores}
-use Rattle.block.proofs.Judged.{rows-fit}
+use Rattle.shape.proofs.Sizes.{rows-fit}
 use Rattle.layout.specs.declared.Layout.{Layout}
 use Rattle.layout.specs.Layout.{shapeOf, rowsOf, index}
 use Rattle.store.specs.Image.{gathered, placed, Untouched}

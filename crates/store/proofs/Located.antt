@@ -2,8 +2,8 @@
 use Prim.Native.Nat.{ℕ}
 use mathlib.Core.Path.{_≡_}
 use borrow.Author.Tests.{eq-eqb, ne-eqb}
-use Rattle.block.specs.declared.Shape.{Shape}
-use Rattle.block.specs.Shape.{rows, words}
+use Rattle.shape.specs.declared.Shape.{Shape}
+use Rattle.shape.specs.Shape.{rows, words}
 use Rattle.ground.proofs.Ladder.{then-first}
 use Rattle.layout.specs.declared.Layout.{Layout}
 use Rattle.layout.specs.declared.Site.the-variants.{Nowhere}

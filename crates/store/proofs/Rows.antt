@@ -14,8 +14,8 @@ use Rattle.lane.specs.Decision.{Decision, unchanged, lost, flipped, Right, deci
 use Rattle.lane.proofs.Decided.{decided}
 use Rattle.lane.proofs.Linear.{sum-same, count-same}
 use Rattle.lane.proofs.Rows.{split-below}
-use Rattle.block.specs.declared.Shape.{Shape}
-use Rattle.block.specs.Shape.{before, rows}
+use Rattle.shape.specs.declared.Shape.{Shape}
+use Rattle.shape.specs.Shape.{before, rows}
 use Rattle.block.specs.Words.{lane}
 use Rattle.ground.specs.Choice.{ifZero}
 use Rattle.block.specs.Block.{SameRows, lanesLost, mendedLanes, mendedBlock, bitsChanged}

@@ -6,14 +6,14 @@ use mathlib.Core.List.{List}
 use native.Mathlib.Omega.{arith}
 use lib.ListN.{length, getD, drop, length-drop}
 use lib.Seq.{getD-drop}
-use Rattle.block.specs.declared.Shape.{Shape}
+use Rattle.shape.specs.declared.Shape.{Shape}
 use Rattle.block.specs.declared.Verdict.{Verdict}
 use Rattle.block.specs.declared.Verdict.the-variants.{Clean}
-use Rattle.block.specs.Shape.{rows}
+use Rattle.shape.specs.Shape.{rows}
 use Rattle.ground.proofs.Stores.{length-stores, stores-hit, stores-same}
 use Rattle.block.specs.Block.{blank, mendedBlock}
 use Rattle.block.specs.Verdict.{verdictOf, validFrom}
-use Rattle.block.proofs.Judged.{rows-fit}
+use Rattle.shape.proofs.Sizes.{rows-fit}
 use Rattle.block.proofs.Looked.{valid-fits, valid-clean}
 use Rattle.store.specs.Inner.{strideRead, strideWrite}
 use Rattle.store.proofs.Rows.{same-verdict}

@@ -3,7 +3,7 @@ use Prim.Native.Nat.{ℕ}
 use mathlib.Core.Path.{_≡_}
 use mathlib.Core.List.{List}
 use lib.ListN.{length}
-use Rattle.block.specs.declared.Shape.{Shape}
+use Rattle.shape.specs.declared.Shape.{Shape}
 use Rattle.ground.specs.Choice.{ifZero}
 use Rattle.block.specs.Block.{lanesLost, mendedBlock, dataOf}
 use Rattle.block.specs.Verdict.{verdictOf}

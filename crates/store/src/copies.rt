@@ -3,11 +3,11 @@
 ghost use mathlib.Core.Path.{_≡_};
 ghost use Prim.Native.Nat.{_≤_};
 ghost use lib.ListN.{length};
-ghost use Rattle.block.specs.Shape.{mostRows, rows};
+ghost use Rattle.shape.specs.Shape.{mostRows, rows};
 ghost use Rattle.store.specs.Inner.{Inside, strideRead, strideWrite};
-use block::MOST_ROWS;
-use block::Shape;
-use block::rows;
+use shape::MOST_ROWS;
+use shape::Shape;
+use shape::rows;
 
 // The words at `at`, `at + s`, `at + 2 s`, .., `rows` of them, into the first of the block.
 fn take_rows(image: &[u32], rows: usize, at: usize, s: usize, block: &mut [u32; MOST_ROWS])

@@ -2,10 +2,10 @@
 ghost use Rattle.store.specs.Read.{Reads};
 use super::Answer;
 use super::copies::gather;
-use block::MOST_ROWS;
 use block::Verdict;
 use layout::Layout;
 use layout::Site;
+use shape::MOST_ROWS;
 
 pub fn read(image: &[u32], layout: Layout, block: u32, buffer: &mut [u32]) -> Answer
     ensures { λ r. ⌜ Reads (now (image .entry)) layout block (now (buffer .entry)) r (now (buffer .exit)) ⌝ }
@@ -13,7 +13,7 @@ pub fn read(image: &[u32], layout: Layout, block: u32, buffer: &mut [u32]) -> An
     match layout.locate(image.len(), block) {
         Site::Nowhere(number) => Answer::Refused(number),
         Site::At(shape, at) => {
-            if buffer.len() != block::words(shape) {
+            if buffer.len() != shape::words(shape) {
                 return Answer::Refused(7);
             }
             let mut rows = [0u32; MOST_ROWS];

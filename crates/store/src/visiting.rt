@@ -1,7 +1,7 @@
 // Visit: a block decided whole, and stored only where it was mended.
 ghost use mathlib.Core.Path.{_≡_};
 ghost use lib.ListN.{length};
-ghost use Rattle.block.specs.Shape.{rows};
+ghost use Rattle.shape.specs.Shape.{rows};
 ghost use Rattle.block.specs.Block.{blank, mendedBlock};
 ghost use Rattle.block.specs.Verdict.{verdictOf};
 ghost use Rattle.store.specs.Inner.{Inside, strideRead, strideWrite};
@@ -9,11 +9,11 @@ ghost use Rattle.store.specs.Visit.{Visits, VisitsAccepted};
 use super::Answer;
 use super::copies::gather;
 use super::copies::scatter;
-use block::MOST_ROWS;
-use block::Shape;
 use block::Verdict;
 use layout::Layout;
 use layout::Site;
+use shape::MOST_ROWS;
+use shape::Shape;
 
 // The rows at `at`, `at + s`, .. decided whole, and stored only where they were mended.
 fn mend(image: &mut [u32], shape: Shape, at: usize, s: usize) -> Verdict

@@ -11,7 +11,7 @@ pub fn write(image: &mut [u32], layout: Layout, block: u32, list: &[u32]) -> Ans
     match layout.locate(image.len(), block) {
         Site::Nowhere(number) => Answer::Refused(number),
         Site::At(shape, at) => {
-            if list.len() != block::words(shape) {
+            if list.len() != shape::words(shape) {
                 return Answer::Refused(7);
             }
             let valid = block::encode(shape, list);

@@ -6,12 +6,12 @@ use native.Mathlib.Omega.{arith}
 use lib.Bits.{bitXor}
 use lib.ListN.{getD, set}
 use borrow.Author.Needs.{needs}
-use Rattle.block.specs.declared.Shape.{Shape}
+use Rattle.shape.specs.declared.Shape.{Shape}
 use Rattle.block.specs.declared.sums.Sums.{Sums}
-use Rattle.block.specs.Shape.{before}
+use Rattle.shape.specs.Shape.{before}
 use Rattle.block.specs.Block.{dataBlock}
 use Rattle.block.specs.Inner.{sumsOf, xorAll, withChecks}
-use Rattle.block.proofs.Data.{before-lt}
+use Rattle.shape.proofs.Sizes.{before-lt}
 use Rattle.block.proofs.Encoding.{built}
 use Rattle.block.proofs.coding.encode.Statement.{statement}
 use Rattle.block.proofs.coding.encode.Tie as tie

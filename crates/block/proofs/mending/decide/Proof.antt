@@ -5,15 +5,16 @@ use mathlib.Core.List.{List}
 use native.Mathlib.Omega.{arith}
 use lib.ListN.{length}
 use borrow.Author.Needs.{needs}
-use Rattle.block.specs.declared.Shape.{Shape}
+use Rattle.shape.specs.declared.Shape.{Shape}
 use Rattle.block.specs.declared.sums.Sums.{Sums}
 use Rattle.block.specs.declared.Verdict.{Verdict}
 use Rattle.block.specs.declared.Verdict.the-variants.{Clean}
-use Rattle.block.specs.Shape.{rows}
+use Rattle.shape.specs.Shape.{rows}
 use Rattle.block.specs.Block.{mendedBlock}
 use Rattle.block.specs.Verdict.{verdictOf}
 use Rattle.block.specs.Inner.{sumsOf, InDoubt}
-use Rattle.block.proofs.Judged.{rows-fit, clean-verdict, clean-block}
+use Rattle.shape.proofs.Sizes.{rows-fit}
+use Rattle.block.proofs.Judged.{clean-verdict, clean-block}
 use Rattle.block.proofs.Looked.{quiet, any-lt, parity-lt}
 use Rattle.block.proofs.mending.decide.Statement.{statement}
 use Rattle.block.proofs.mending.decide.Tie as tie

@@ -8,12 +8,13 @@ use lib.Count.{ones}
 use lib.ListN.{length}
 use borrow.Author.Needs.{needs}
 use Rattle.lane.specs.Bit.{bit}
-use Rattle.block.specs.declared.Shape.{Shape}
+use Rattle.shape.specs.declared.Shape.{Shape}
 use Rattle.block.specs.declared.sums.Sums.{Sums}
 use Rattle.block.specs.declared.Verdict.the-variants.{Mended, Lost}
-use Rattle.block.specs.Shape.{before, rows}
+use Rattle.shape.specs.Shape.{before, rows}
 use Rattle.block.specs.Inner.{sumsOf, anyOf, aboveOf, lostLanes, sumAt, flippedIn}
-use Rattle.block.proofs.Judged.{before-small, rows-fit, lost-verdict, lost-block, named-low, mended-verdict, mended-block}
+use Rattle.shape.proofs.Sizes.{before-small, rows-fit}
+use Rattle.block.proofs.Judged.{lost-verdict, lost-block, named-low, mended-verdict, mended-block}
 use Rattle.block.proofs.Looked.{heard}
 use Rattle.block.proofs.mending.in_doubt.Statement.{statement}
 use Rattle.block.proofs.mending.in_doubt.Tie as tie

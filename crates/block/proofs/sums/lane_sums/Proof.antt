@@ -1,7 +1,7 @@
 -- `block::sums::lane_sums` meets its contract: the block is all there. Assumes nothing.
 use native.Mathlib.Omega.{arith}
 use borrow.Author.Needs.{needs}
-use Rattle.block.proofs.Judged.{rows-fit}
+use Rattle.shape.proofs.Sizes.{rows-fit}
 use Rattle.block.proofs.Looked.{sums-are}
 use Rattle.block.proofs.sums.lane_sums.Statement.{statement}
 use Rattle.block.proofs.sums.lane_sums.Tie as tie

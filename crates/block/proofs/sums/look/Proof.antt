@@ -5,8 +5,8 @@ use mathlib.Core.List.{List}
 use native.Mathlib.Omega.{arith}
 use lib.ListN.{length, drop}
 use borrow.Author.Needs.{needs}
-use Rattle.block.specs.declared.Shape.{Shape}
-use Rattle.block.specs.Shape.{rows}
+use Rattle.shape.specs.declared.Shape.{Shape}
+use Rattle.shape.specs.Shape.{rows}
 use Rattle.block.specs.Inner.{sumWords, anyOf, Looked}
 use Rattle.block.proofs.sums.look.Statement.{statement}
 use Rattle.block.proofs.sums.look.Tie as tie

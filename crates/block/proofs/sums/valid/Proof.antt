@@ -8,8 +8,8 @@ use lib.Dec.{eqb, leb}
 use lib.ListN.{length, drop, length-drop}
 use borrow.Author.Needs.{needs}
 use borrow.Author.Tests.{leb-true, leb-false}
-use Rattle.block.specs.declared.Shape.{Shape}
-use Rattle.block.specs.Shape.{rows}
+use Rattle.shape.specs.declared.Shape.{Shape}
+use Rattle.shape.specs.Shape.{rows}
 use Rattle.block.specs.Verdict.{clean?, verdictOf, validFrom}
 use Rattle.block.specs.Inner.{Looked}
 use Rattle.block.proofs.Looked.{found-clean}

@@ -4,8 +4,8 @@ use Prim.Native.Nat.{_*_, _≤_}
 use mathlib.Core.Path.{_≡_, sym, ap, ap₂, _∙_}
 use native.Mathlib.Nat.{mul-le-mul}
 use native.Mathlib.Omega.{arith}
-use Rattle.block.specs.Shape.{rows}
-use Rattle.block.proofs.Judged.{rows-fit}
+use Rattle.shape.specs.Shape.{rows}
+use Rattle.shape.proofs.Sizes.{rows-fit}
 use Rattle.ground.proofs.Tests.{tests}
 use Rattle.ground.proofs.Ladder.{then-first}
 use Rattle.layout.specs.Layout.{rowsOf, blocks}

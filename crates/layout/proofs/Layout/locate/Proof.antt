@@ -5,8 +5,8 @@ use borrow.Author.Needs.{needs}
 use borrow.Author.Tests.{le-leb}
 use native.Mathlib.Nat.{le-refl, mod-le, mul-le-mul, sub-le}
 use native.Mathlib.Omega.{arith}
-use Rattle.block.specs.Shape.{rows}
-use Rattle.block.proofs.Judged.{rows-fit}
+use Rattle.shape.specs.Shape.{rows}
+use Rattle.shape.proofs.Sizes.{rows-fit}
 use Rattle.ground.proofs.Ladder.{then-first}
 use Rattle.layout.specs.Layout.{rowsOf}
 use Rattle.layout.specs.Refusal.{imageRefusal, blockRefusal}

@@ -3,7 +3,7 @@ use mathlib.Core.Path.{_≡_, sym, _∙_}
 use borrow.Author.Needs.{needs}
 use native.Mathlib.Omega.{arith}
 use lib.ListN.{length}
-use Rattle.block.specs.Shape.{words}
+use Rattle.shape.specs.Shape.{words}
 use Rattle.layout.proofs.Sites.{Located, located}
 use Rattle.store.proofs.Calls.{read-refused, read-lost, read-data}
 use Rattle.store.proofs.Located.{inside, data-refused, list-refused}

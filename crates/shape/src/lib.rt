@@ -1,7 +1,11 @@
-// The rows and the data words of each shape, said once.
+// The two shapes of a block: their rows and their data words, said once.
 ghost use mathlib.Core.Path.{_≡_};
-ghost use Rattle.block.specs.Shape.{before, rows, words};
-use super::Shape;
+ghost use Rattle.shape.specs.Shape.{before, rows, words};
+
+pub enum Shape {
+    One,
+    Two,
+}
 
 // The rows before the last of the larger shape.
 const MOST_BEFORE: usize = 71;
@@ -10,7 +14,7 @@ const MOST_BEFORE: usize = 71;
 pub const MOST_ROWS: usize = MOST_BEFORE + 1;
 
 // How many rows stand before the last.
-pub(crate) fn rows_before(shape: Shape) -> usize
+pub fn rows_before(shape: Shape) -> usize
     ensures { λ r. ⌜ r ≡ before shape ⌝ }
 {
     match shape {

@@ -2,8 +2,8 @@
 use Prim.Native.Nat.{ℕ, suc}
 use mathlib.Core.List.{List}
 use Rattle.lane.specs.Rows.{dataRows}
-use Rattle.block.specs.declared.Shape.{Shape}
-use Rattle.block.specs.declared.Shape.the-variants.{One, Two}
+use Rattle.shape.specs.declared.Shape.{Shape}
+use Rattle.shape.specs.declared.Shape.the-variants.{One, Two}
 
 -- how many rows stand before the last
 abbrev pub before : Shape → ℕ

@@ -1,9 +1,9 @@
--- `block::shapes::rows_before` meets its contract: the number of the shape that is told. Assumes nothing.
+-- `shape::rows_before` meets its contract: the number of the shape that is told. Assumes nothing.
 use mathlib.Core.Path.{sym, ap}
 use borrow.Author.Needs.{needs}
-use Rattle.block.specs.Shape.{before}
-use Rattle.block.proofs.shapes.rows_before.Statement.{statement}
-use Rattle.block.proofs.shapes.rows_before.Tie as tie
+use Rattle.shape.specs.Shape.{before}
+use Rattle.shape.proofs.rows_before.Statement.{statement}
+use Rattle.shape.proofs.rows_before.Tie as tie
 
 enum-told : tie.Need-enum-told
 enum-told c = search needs

@@ -1,9 +1,9 @@
--- `block::shapes::rows` meets its contract: one more than the rows before the last. Assumes nothing.
+-- `shape::rows` meets its contract: one more than the rows before the last. Assumes nothing.
 use native.Mathlib.Omega.{arith}
 use borrow.Author.Needs.{needs}
-use Rattle.block.proofs.Data.{before-lt}
-use Rattle.block.proofs.shapes.rows.Statement.{statement}
-use Rattle.block.proofs.shapes.rows.Tie as tie
+use Rattle.shape.proofs.Sizes.{before-lt}
+use Rattle.shape.proofs.rows.Statement.{statement}
+use Rattle.shape.proofs.rows.Tie as tie
 
 rows-before-requires : tie.Need-rows-before-requires
 rows-before-requires c κs = search needs
