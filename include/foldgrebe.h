@@ -6,8 +6,8 @@
    Neighbouring words belong to s different blocks, so that a hit on up to s words in a row harms s blocks a little.
 
    Use: format once, write and read blocks by number, and call turn again and again, which patrols the image: each turn
-   visits (checks and mends) the next block and one block that was asked for. If at most one bit of a lane of a block
-   flips in every N turns, every read gives what was last written.
+   visits (checks and mends) the next block and one block that was asked for. If at least N turns lie between two flips
+   in the same lane of the same block, every read gives what was last written.
 
    Every call answers a number: 0 where it is accepted, or the first refusal, in the order given with the call:
      1  shape is not 1 or 2                      5  the record is broken

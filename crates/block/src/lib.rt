@@ -1,4 +1,4 @@
-// The code on one gathered block, 32 lanes at once.
+// The code on one block, 32 lanes at once.
 mod coding;
 mod mending;
 mod sums;
@@ -11,6 +11,8 @@ pub use sums::valid;
 
 pub enum Verdict {
     Clean,
+    // How many bits are changed.
     Mended(u32),
+    // How many lanes are lost.
     Lost(u32),
 }

@@ -13,6 +13,7 @@ use Rattle.lane.specs.Bit.{bit}
 use Rattle.lane.specs.Rows.{power?, rowsWhere}
 use Rattle.shape.specs.declared.Shape.{Shape}
 use Rattle.block.specs.declared.Verdict.{Verdict}
+use Rattle.block.specs.declared.Verdict.the-variants.{Mended, Lost}
 use Rattle.shape.specs.Shape.{before}
 use Rattle.block.specs.Words.{number}
 use Rattle.block.specs.Block.{dataBlock, validBlock, mendedBlock}
@@ -20,7 +21,7 @@ use Rattle.block.specs.Verdict.{verdictOf, verdictWords}
 use Rattle.block.specs.Inner.{xorOver, sumsOf, anyOf, aboveOf, lostLanes, flippedIn, xorAll, withChecks}
 use Rattle.block.proofs.ByWords.{fit?, bits, written, lost-by-words, mended-by-words}
 use Rattle.layout.specs.Layout.{shapeNumbered}
-use Rattle.demands.specs.Examples.{Example, examples, upTo, mended, lost}
+use Rattle.demands.specs.Examples.{Example, examples, upTo}
 
 module _ (shape : Shape) where
   -- a written block, by the words of its data
@@ -42,17 +43,17 @@ module _ (shape : Shape) where
 
     -- a lost block, by the word of its lost lanes
     was-lost : (w n : ℕ) → lostWord ≡ suc w → bits lostWord ≡ n
-        → _≡_ {A = List ℕ} (verdictWords (verdictOf shape found) ++ mendedBlock shape found) (lost ∷ n ∷ found)
+        → _≡_ {A = List ℕ} (verdictWords (verdictOf shape found) ++ mendedBlock shape found) (verdictWords (Lost n) ++ found)
     was-lost w n e c =
-        said found found _ (lost-by-words shape found fit long (λ z. omega (arith, e))) ∙ ap (λ (k : ℕ). lost ∷ k ∷ found) c
+        said found found _ (lost-by-words shape found fit long (λ z. omega (arith, e))) ∙ ap (λ (k : ℕ). verdictWords (Lost k) ++ found) c
 
     -- a mended block, by the word of its odd lanes
     was-mended : (n w : ℕ) (after : List ℕ) → lostWord ≡ 0 → bitOr (anyOf 7 (sumsOf shape found .digits)) (sumsOf shape found .parity) ≡ suc w
         → bits (sumsOf shape found .parity) ≡ n
         → flippedIn (before shape + 1) (sumsOf shape found .digits) (λ i. bit i (sumsOf shape found .parity)) found ≡ after
-        → _≡_ {A = List ℕ} (verdictWords (verdictOf shape found) ++ mendedBlock shape found) (mended ∷ n ∷ after)
+        → _≡_ {A = List ℕ} (verdictWords (verdictOf shape found) ++ mendedBlock shape found) (verdictWords (Mended n) ++ after)
     was-mended n w after z s c e =
-        said found _ _ (mended-by-words shape found fit long z (λ q. omega (arith, s))) ∙ ap₂ (λ (k : ℕ) (l : List ℕ). mended ∷ k ∷ l) c e
+        said found _ _ (mended-by-words shape found fit long z (λ q. omega (arith, s))) ∙ ap₂ (λ (k : ℕ) (l : List ℕ). verdictWords (Mended k) ++ l) c e
 
 pub all-hold : map (λ (e : Example). e .gives) examples ≡ map (λ (e : Example). e .must) examples
 unfolding examples upTo dataBlock stores listOf number total xorOver anyOf aboveOf flippedIn xorAll withChecks power? rowsWhere bit fit? shapeNumbered

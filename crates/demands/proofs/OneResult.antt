@@ -37,7 +37,7 @@ use Rattle.patrol.specs.Turn.{Turns}
 pub one-least : (m n : ℕ) {a b : ℕ} → a ≡ min m n → b ≡ min m n → a ≡ b
 one-least m n p q = same p q
 
--- ---- block
+-- ---- shape
 
 pub one-rows-before : (shape : Shape) {a b : ℕ} → a ≡ before shape → b ≡ before shape → a ≡ b
 one-rows-before shape p q = same p q
@@ -47,6 +47,8 @@ one-rows shape p q = same p q
 
 pub one-words : (shape : Shape) {a b : ℕ} → a ≡ words shape → b ≡ words shape → a ≡ b
 one-words shape p q = same p q
+
+-- ---- block
 
 pub one-encode : (shape : Shape) (list : List ℕ) {a b : List ℕ} → a ≡ validBlock shape list → b ≡ validBlock shape list → a ≡ b
 one-encode shape list p q = same p q

@@ -7,11 +7,6 @@ use Rattle.file.specs.declared.Header.the-variants.{Refused, Image}
 use Rattle.file.specs.Bytes.{layoutIn}
 use Rattle.file.specs.Refusal.{fileRefusal}
 
--- the specification's number of a header: 0 where it is accepted
-abbrev pub headerNumber : Header → ℕ
-headerNumber (Refused number) = number
-headerNumber (Image layout) = 0
-
 -- the header where nothing is refused, and else the refusal
 abbrev pub headerIf : ℕ → Header → Header
 headerIf number header = ifZero number header (Refused number)

@@ -1,4 +1,4 @@
--- The lines that are printed: the image line; for each block its number, its verdict and the verdict's number, 0 for clean; the blocks of
+-- The lines that are printed: the image line; for each block its number, its verdict and the verdict's count, 0 for clean; the blocks of
 -- each verdict and all bits mended; and for a refusal one line, `refused` and the number. Assumes nothing.
 use Prim.Native.Nat.{ℕ, _+_}
 use Prim.Native.String.{String}

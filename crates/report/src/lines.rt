@@ -32,7 +32,7 @@ pub(crate) fn image_line(layout: Layout, blocks: u32, out: &mut [u8], at: usize)
     put_text(&line[..n], out, at)
 }
 
-// The verdict and its number.
+// The verdict and its count.
 fn put_verdict(verdict: Verdict, line: &mut [u8], at: usize) -> usize
     ensures { λ r. ⌜ page (now (line .exit)) r
         ≡ written (decimal (verdictCount verdict)) (written (ascii (verdictName verdict)) (page (now (line .entry)) at)) ⌝ }

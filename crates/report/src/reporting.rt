@@ -73,6 +73,7 @@ fn report_copied(bytes: &[u8], image: &mut [u32], layout: Layout, out: &mut [u8]
 }
 
 // Copies the words of a file to the lent image, visits each block there, and writes the report from byte 0 of `out` on; answers its end.
+// Of a file that is refused the report is that line; where the image has no room for its words there is none.
 pub fn inspect(bytes: &[u8], image: &mut [u32], out: &mut [u8]) -> usize
     ensures { λ r. ⌜ Reports (now (bytes .entry)) (now (image .entry)) (now (out .entry)) r (now (image .exit)) (now (out .exit)) ⌝ }
 {

@@ -26,6 +26,11 @@ answers-told (Found u) (Found v) p q e w = ap Found (verdict-words-told u v w)
 
 -- ---- a call that is refused: its number is the answer
 
+-- so an answer is proper where the one that is not refused is
+pub answered-proper : (number : ℕ) (answer : Answer) → Proper answer → Proper (answered number answer)
+answered-proper zero answer p = p
+answered-proper (suc number) answer p = λ e. omega arith
+
 pub answered-refused : (number : ℕ) (answer : Answer) → (number ≡ 0 → ⊥) → answered number answer ≡ Refused number
 answered-refused zero answer ne = absurd (ne refl)
 answered-refused (suc number) answer ne = refl

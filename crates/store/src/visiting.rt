@@ -32,7 +32,7 @@ fn mend(image: &mut [u32], shape: Shape, at: usize, s: usize) -> Verdict
     verdict
 }
 
-// Most blocks are valid: without interleave they are left where they lie.
+// What the block is, and the image with it mended. Most blocks are valid: without interleave they are left where they lie.
 pub fn visit(image: &mut [u32], layout: Layout, block: u32) -> Answer
     ensures { λ r. ⌜ Visits (now (image .entry)) layout block r (now (image .exit)) ⌝ }
 {
