@@ -1,3 +1,4 @@
 pub mod Ladder
 pub mod Layouts
 pub mod RoundTrip
+pub mod Headers

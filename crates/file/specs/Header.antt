@@ -2,10 +2,21 @@
 use Prim.Native.Nat.{ℕ}
 use mathlib.Core.List.{List}
 use Rattle.ground.specs.Choice.{ifZero}
+use Rattle.layout.specs.declared.Layout.{Layout}
+use Rattle.layout.specs.Layout.{layoutOf}
 use Rattle.file.specs.declared.Header.{Header}
 use Rattle.file.specs.declared.Header.the-variants.{Refused, Image}
 use Rattle.file.specs.Bytes.{layoutIn}
 use Rattle.file.specs.Refusal.{fileRefusal}
+
+-- the specification's number of a header, 0 where it is accepted, and the layout that it names, of zeros where it is refused
+abbrev pub headerNumber : Header → ℕ
+headerNumber (Refused number) = number
+headerNumber (Image layout) = 0
+
+abbrev pub headerLayout : Header → Layout
+headerLayout (Refused number) = layoutOf 0 0 0
+headerLayout (Image layout) = layout
 
 -- the header where nothing is refused, and else the refusal
 abbrev pub headerIf : ℕ → Header → Header
