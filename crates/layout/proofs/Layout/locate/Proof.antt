@@ -24,6 +24,10 @@ image c = c .before .before
 abbrev start : tie.Else2 → tie.Start
 start c = image (c .before .before)
 
+-- where the block is accepted, from where the rows of its shape are known
+abbrev there : tie.After-rows → tie.Else2
+there c = c .before .before
+
 passed : (c : tie.Else1) → imageRefusal (image c .args .len) (image c .args .self) ≡ 0
 passed c = sym (c .before .check-image .ensures) ∙ c .if1 .left
 
@@ -50,11 +54,11 @@ shape-of-requires c κs = search needs
 rows-requires : tie.Need-rows-requires
 rows-requires c κs = search needs
 
-height : (c : tie.After-rows) → c .rows .result ≡ rowsOf (start (c .before .before) .args .self)
+height : (c : tie.After-rows) → c .rows .result ≡ rowsOf (start (there c) .args .self)
 height c = c .rows .ensures ∙ ap rows (c .before .shape-of .ensures)
 
 -- the product of rows and blocks is small
-small : (c : tie.After-rows) (n : ℕ) → n ≤ start (c .before .before) .args .block → c .rows .result * n ≤ 72 * 4294967295
+small : (c : tie.After-rows) (n : ℕ) → n ≤ start (there c) .args .block → c .rows .result * n ≤ 72 * 4294967295
 small c n h =
     let tall : c .rows .result ≤ 72 = rw (c .rows .ensures) (rows-fit (c .before .shape-of .result)) in
     let few : n ≤ 4294967295 = omega arith in
@@ -66,7 +70,7 @@ mul-t12 c = omega (arith, small (c .before) _ (le-refl _))
 returns-3 : tie.Need-returns-3
 returns-3 c =
     is-site _ _ _ (record {
-      passed = none (c .before .before .before);
+      passed = none (there (c .before));
       same-shape = c .before .before .shape-of .ensures;
       first = rw (height (c .before)) (first-alone _ _ _ (c .if3 .taken));
     })
@@ -75,25 +79,25 @@ cast-within : tie.Need-cast-within
 cast-within c = search needs
 
 rem-within : tie.Need-rem-within
-rem-within c = let ok = accepted _ _ _ (none (c .before .before .before)) in ok .geometry .s-first
+rem-within c = let ok = accepted _ _ _ (none (there (c .before))) in ok .geometry .s-first
 
 sub-t11 : tie.Need-sub-t11
 sub-t11 c = mod-le _ _
 
 mul-t13 : tie.Need-mul-t13
 mul-t13 c =
-    let args = start (c .before .before .before) .args in
+    let args = start (there (c .before)) .args in
     omega (arith, small (c .before) _ (sub-le (args .block) (args .block % args .self .s)))
 
 add-t14 : tie.Need-add-t14
 add-t14 c =
-    let args = start (c .before .before .before) .args in
+    let args = start (there (c .before)) .args in
     omega (arith, small (c .before) _ (sub-le (args .block) (args .block % args .self .s)), mod-le (args .block) (args .self .s))
 
 returns-4 : tie.Need-returns-4
 returns-4 c =
     is-site _ _ _ (record {
-      passed = none (c .before .before .before);
+      passed = none (there (c .before));
       same-shape = c .before .before .shape-of .ensures;
       first = rw (height (c .before)) (first-row _ _ _);
     })

@@ -16,6 +16,13 @@ Inv-loop count n asks i₀ i = (i ≤ count) × (below n (take i asks) ≡ true)
 abbrev μ-loop : tie.MeasureT-loop
 μ-loop count n asks i₀ i = count - i
 
+-- the start, from where the loop is entered, and that point from where an earlier place is known
+abbrev start : tie.In-loop Inv-loop μ-loop → tie.Start Inv-loop μ-loop
+start c = c .before .before
+
+abbrev entered : tie.After-place-in Inv-loop μ-loop → tie.In-loop Inv-loop μ-loop
+entered c = c .before .before
+
 long : (c : tie.Start Inv-loop μ-loop) → length (c .args .t1) ≡ places
 long c = search needs
 
@@ -31,7 +38,7 @@ array-read-block c = search needs
 
 returns : tie.Need-returns Inv-loop μ-loop
 returns c =
-    let l = long (c .before .before .before) in
+    let l = long (start (c .before)) in
     below-fails _ _ (c .before .before .loop .i) _ (c .before .loop-test .taken) (omega arith) (c .if1 .taken)
 
 place-in-requires : tie.Need-place-in-requires Inv-loop μ-loop
@@ -39,8 +46,9 @@ place-in-requires c κs = search needs
 
 returns-2 : tie.Need-returns-2 Inv-loop μ-loop
 returns-2 c =
-    let l = long (c .before .before .before .before .before) in
-    once-fails _ _ (c .before .before .before .before .loop .i) _ (c .before .before .before .loop-test .taken) (omega arith)
+    let passed = entered (c .before) in
+    let l = long (start passed) in
+    once-fails _ _ (passed .before .loop .i) _ (passed .loop-test .taken) (omega arith)
     (λ z. c .if2 .taken (c .before .place-in .ensures ∙ z))
 
 add-i : tie.Need-add-i Inv-loop μ-loop
@@ -51,8 +59,9 @@ loop-less c = search needs
 
 loop-again : tie.Need-loop-again Inv-loop μ-loop
 loop-again c =
-    let l = long (c .before .before .before .before .before) in
-    let at = c .before .before .before .before .loop in (
+    let passed = entered (c .before) in
+    let l = long (start passed) in
+    let at = passed .before .loop in (
       omega arith,
       below-next _ _ (at .i) (omega arith) (at .inv .1) (c .before .before .if1 .left),
       once-next _ (at .i) (omega arith) (at .inv .2) (sym (c .before .place-in .ensures) ∙ c .if2 .left),
