@@ -7,6 +7,7 @@ pub mod Blocks
 pub mod Judged
 pub mod Looked
 pub mod Data
+pub mod DataTables
 pub mod Encoding
 pub mod ValidBlocks
 pub mod ByWords

@@ -1,9 +1,13 @@
--- A verdict's number is never 0, and its words tell the verdicts apart. Assumes nothing.
-use mathlib.Core.Path.{_≡_, refl, ap}
+-- A verdict's number is never 0, what is said tells the verdicts apart, and so the verdict that keeps a promise is the block's. Assumes nothing.
+use Prim.Native.Nat.{ℕ, zero, suc}
+use mathlib.Core.Path.{_≡_, refl, sym, ap, _∙_}
+use mathlib.Core.List.{List}
 use native.Mathlib.Omega.{arith}
 use Rattle.block.specs.declared.Verdict.{Verdict}
 use Rattle.block.specs.declared.Verdict.the-variants.{Clean, Mended, Lost}
-use Rattle.block.specs.Verdict.{verdictNumber, verdictCount, verdictWords, noVerdict}
+use Rattle.shape.specs.declared.Shape.{Shape}
+use Rattle.block.specs.Block.{lanesLost, bitsChanged, mendedBlock}
+use Rattle.block.specs.Verdict.{verdictNumber, verdictCount, Said, saidOf, saidBy, toSay, unsaid, verdictWords, noVerdict, verdict, verdictOf, Decides}
 
 pub verdict-some : (v : Verdict) → verdictNumber v ≡ 0 → ⊥
 verdict-some Clean e = omega arith
@@ -21,9 +25,34 @@ verdicts-told (Lost m) Clean n c = absurd (omega arith)
 verdicts-told (Lost m) (Mended k) n c = absurd (omega arith)
 verdicts-told (Lost m) (Lost k) n c = ap Lost c
 
+-- by what is said
+pub said-told : (a b : Verdict) → saidOf a ≡ saidOf b → a ≡ b
+said-told a b e = verdicts-told a b (ap (λ (s : Said). s .verdict) e) (ap (λ (s : Said). s .count) e)
+
+pub said-some : (v : Verdict) → saidOf v ≡ unsaid → ⊥
+said-some v e = verdict-some v (ap (λ (s : Said). s .verdict) e)
+
 -- by their words
 pub verdict-words-told : (a b : Verdict) → verdictWords a ≡ verdictWords b → a ≡ b
 verdict-words-told a b e = verdicts-told a b (cc) (cc)
 
 pub verdict-words-some : (v : Verdict) → verdictWords v ≡ noVerdict → ⊥
 verdict-words-some v e = verdict-some v (cc)
+
+-- ---- the verdict of a block says what is to be said of it, and no other does
+
+said-by : (lost changed : ℕ) → saidOf (verdict lost changed) ≡ saidBy lost changed
+said-by zero zero = refl
+said-by zero (suc changed) = refl
+said-by (suc lost) changed = refl
+
+module _ (shape : Shape) (block : List ℕ) where
+  pub verdict-says : saidOf (verdictOf shape block) ≡ toSay shape block
+  unfolding verdictOf toSay
+  verdict-says = said-by (lanesLost shape block) (bitsChanged shape block (mendedBlock shape block))
+
+  pub says-verdict : {v : Verdict} → saidOf v ≡ toSay shape block → v ≡ verdictOf shape block
+  says-verdict {v} e = said-told v (verdictOf shape block) (e ∙ sym verdict-says)
+
+  pub decides : {v : Verdict} {after : List ℕ} → (v ≡ verdictOf shape block) × (after ≡ mendedBlock shape block) → Decides shape block v after
+  decides e = record { says = ap saidOf (e .0) ∙ verdict-says; leaves = e .1 }

@@ -2,3 +2,4 @@ pub mod Words
 pub mod Block
 pub mod Verdict
 pub mod Inner
+pub mod DataTables

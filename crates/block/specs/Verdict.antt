@@ -3,8 +3,9 @@
 use Prim.Native.Nat.{ℕ, zero, suc, _+_}
 use mathlib.Core.Bool.{Bool, true, false, _&&_}
 use mathlib.Core.List.{List, [], _∷_}
+use mathlib.Core.Path.{_≡_}
 use lib.Dec.{leb}
-use lib.ListN.{length, drop, replicate}
+use lib.ListN.{length, drop}
 use Rattle.shape.specs.declared.Shape.{Shape}
 use Rattle.block.specs.declared.Verdict.{Verdict}
 use Rattle.block.specs.declared.Verdict.the-variants.{Clean, Mended, Lost}
@@ -21,13 +22,45 @@ verdictCount Clean = 0
 verdictCount (Mended m) = m
 verdictCount (Lost m) = m
 
--- a verdict as words: its number, and its count
-abbrev pub verdictWords : Verdict → List ℕ
-verdictWords verdict = verdictNumber verdict ∷ verdictCount verdict ∷ []
+-- ---- what is said of a block, in numbers
 
--- as many zeros, where there is no verdict
+pub record Said : Type 0 where
+  pub verdict : ℕ
+  pub count : ℕ
+
+abbrev pub saidOf : Verdict → Said
+saidOf found = record { verdict = verdictNumber found; count = verdictCount found }
+
+-- no verdict: 0, and no count
+abbrev pub unsaid : Said
+unsaid = record { verdict = 0; count = 0 }
+
+-- by the lanes lost and the bits changed
+abbrev pub saidBy : ℕ → ℕ → Said
+saidBy zero zero = record { verdict = 1; count = 0 }
+saidBy zero (suc m) = record { verdict = 2; count = suc m }
+saidBy (suc l) m = record { verdict = 3; count = suc l }
+
+-- what is to be said of a block
+unfoldable pub toSay : Shape → List ℕ → Said
+toSay shape block = saidBy (lanesLost shape block) (bitsChanged shape block (mendedBlock shape block))
+
+-- as words
+abbrev pub saidWords : Said → List ℕ
+saidWords said = said .verdict ∷ said .count ∷ []
+
+abbrev pub verdictWords : Verdict → List ℕ
+verdictWords found = saidWords (saidOf found)
+
 abbrev pub noVerdict : List ℕ
-noVerdict = replicate (length (verdictWords Clean)) 0
+noVerdict = saidWords unsaid
+
+-- the promise of decide: what it says, and the block that it leaves
+pub record Decides (shape : Shape) (block : List ℕ) (found : Verdict) (after : List ℕ) : Type 0 where
+  pub says : saidOf found ≡ toSay shape block
+  pub leaves : after ≡ mendedBlock shape block
+
+-- ---- the verdict itself, as callers use it
 
 -- by the lanes lost and the bits changed
 abbrev pub verdict : ℕ → ℕ → Verdict
@@ -46,3 +79,7 @@ clean? (Lost m) = false
 -- do the words from `at` on begin with a block that is all there and valid
 unfoldable pub validFrom : Shape → ℕ → List ℕ → Bool
 validFrom shape at words = leb (at + rows shape) (length words) && clean? (verdictOf shape (drop at words))
+
+-- the promise of valid
+abbrev pub TellsValid : Shape → List ℕ → ℕ → Bool → Type 0
+TellsValid shape words at answer = answer ≡ validFrom shape at words

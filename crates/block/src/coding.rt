@@ -4,7 +4,7 @@ ghost use Prim.Native.Nat.{_-_, _<_};
 ghost use lib.ListN.{length, getD};
 ghost use Rattle.ground.specs.Stores.{stores};
 ghost use Rattle.shape.specs.Shape.{mostRows};
-ghost use Rattle.block.specs.Block.{blank, dataBlock, validBlock, dataInto};
+ghost use Rattle.block.specs.Block.{blank, dataBlock, Encodes, CopiesData};
 ghost use Rattle.block.specs.Inner.{Listed, Rising, copiedInto, xorAll, withChecks};
 use super::sums::lane_sums;
 use super::tables::*;
@@ -66,7 +66,7 @@ fn set_checks(block: &mut [u32; MOST_ROWS], digits: &[u32; 7])
 
 // The valid block for a list of data words: a word that is missing counts as zero, and words past the last data row are not used.
 pub fn encode(shape: Shape, list: &[u32]) -> [u32; MOST_ROWS]
-    ensures { λ r. ⌜ r ≡ validBlock shape (now (list .entry)) ⌝ }
+    ensures { λ r. ⌜ Encodes shape (now (list .entry)) r ⌝ }
 {
     let mut block = spread_data(shape, list);
     let sums = lane_sums(shape, &block);
@@ -94,7 +94,7 @@ fn copy_rows(rows: &[u8], block: &[u32; MOST_ROWS], buffer: &mut [u32])
 
 // Copies the data words of a block to a buffer.
 pub fn data_into(shape: Shape, block: &[u32; MOST_ROWS], buffer: &mut [u32])
-    ensures { λ r. ⌜ now (buffer .exit) ≡ dataInto shape (now (block .entry)) (now (buffer .entry)) ⌝ }
+    ensures { λ r. ⌜ CopiesData shape (now (block .entry)) (now (buffer .entry)) (now (buffer .exit)) ⌝ }
 {
     match shape {
         Shape::One => copy_rows(&DATA_ONE, block, buffer),

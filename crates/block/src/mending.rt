@@ -5,7 +5,7 @@ ghost use Prim.Native.Nat.{ℕ, _≤_, _<_};
 ghost use Rattle.lane.specs.Bit.{bit};
 ghost use Rattle.shape.specs.Shape.{mostRows};
 ghost use Rattle.block.specs.Block.{mendedBlock};
-ghost use Rattle.block.specs.Verdict.{verdictOf};
+ghost use Rattle.block.specs.Verdict.{verdictOf, Decides};
 ghost use Rattle.block.specs.Inner.{anyOf, aboveOf, sumAt, rowNamed, flippedIn, InDoubt};
 use super::Verdict;
 use super::sums::lane_sums;
@@ -95,8 +95,7 @@ fn in_doubt(shape: Shape, block: &mut [u32; MOST_ROWS], digits: &[u32; 7], parit
 
 // Decides a gathered block, and mends it where no lane is lost. Doubt is rare: a call for each shape keeps it out of line.
 pub fn decide(shape: Shape, block: &mut [u32; MOST_ROWS]) -> Verdict
-    ensures verdict { λ r. ⌜ r ≡ verdictOf shape (now (block .entry)) ⌝ }
-    ensures after { λ r. ⌜ now (block .exit) ≡ mendedBlock shape (now (block .entry)) ⌝ }
+    ensures { λ r. ⌜ Decides shape (now (block .entry)) r (now (block .exit)) ⌝ }
 {
     let sums = lane_sums(shape, block);
     if sums.some == 0 {

@@ -3,7 +3,7 @@ ghost use mathlib.Core.Path.{_≡_};
 ghost use Prim.Native.Nat.{_+_, _-_, _≤_};
 ghost use lib.ListN.{length, drop, replicate};
 ghost use Rattle.shape.specs.Shape.{mostRows, rows};
-ghost use Rattle.block.specs.Verdict.{validFrom};
+ghost use Rattle.block.specs.Verdict.{TellsValid};
 ghost use Rattle.block.specs.Inner.{xorOver, Listed, sumsOf, sumWords, anyOf, Looked};
 use super::tables::*;
 use shape::Shape;
@@ -104,7 +104,7 @@ fn look(shape: Shape, words: &[u32], at: usize, sums: &mut [u32]) -> u32
 
 // Whether the words from `at` on begin with a valid block.
 pub fn valid(shape: Shape, words: &[u32], at: usize) -> bool
-    ensures { λ r. ⌜ r ≡ validFrom shape at (now (words .entry)) ⌝ }
+    ensures { λ r. ⌜ TellsValid shape (now (words .entry)) at r ⌝ }
 {
     let mut sums = [0u32; 8];
     look(shape, &*words, at, &mut sums) == 0

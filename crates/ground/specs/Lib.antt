@@ -1,4 +1,5 @@
 pub mod Choice
+pub mod Least
 pub mod Lists
 pub mod Totals
 pub mod Stores

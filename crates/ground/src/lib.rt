@@ -1,10 +1,9 @@
 // What belongs to no subject.
-ghost use mathlib.Core.Path.{_≡_};
-ghost use Prim.Native.Nat.{min};
+ghost use Rattle.ground.specs.Least.{IsLeast};
 
 // The smaller of two lengths.
 pub fn least(a: usize, b: usize) -> usize
-    ensures { λ r. ⌜ r ≡ min a b ⌝ }
+    ensures { λ r. ⌜ IsLeast a b r ⌝ }
 {
     if a < b { a } else { b }
 }

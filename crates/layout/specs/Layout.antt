@@ -3,6 +3,7 @@
 -- Assumes nothing.
 use Prim.Native.Nat.{ℕ, _+_, _-_, _*_, _/_, _%_}
 use mathlib.Core.Bool.{cond}
+use mathlib.Core.Path.{_≡_}
 use lib.Dec.{eqb}
 use Rattle.shape.specs.declared.Shape.{Shape}
 use Rattle.shape.specs.declared.Shape.the-variants.{One, Two}
@@ -17,6 +18,10 @@ layoutOf shape s g = record { shape = shape; s = s; g = g }
 unfoldable pub shapeNumbered : ℕ → Shape
 shapeNumbered number = cond (eqb number 1) One Two
 
+abbrev pub shapeNumber : Shape → ℕ
+shapeNumber One = 1
+shapeNumber Two = 2
+
 abbrev pub shapeOf : Layout → Shape
 shapeOf layout = shapeNumbered (layout .shape)
 
@@ -30,6 +35,10 @@ wordsOf layout = words (shapeOf layout)
 -- N, how many blocks the groups hold
 abbrev pub blocks : Layout → ℕ
 blocks layout = layout .g * layout .s
+
+-- the promise of blocks
+abbrev pub CountsBlocks : Layout → ℕ → Type 0
+CountsBlocks layout count = count ≡ blocks layout
 
 -- the group of a block, and its place there
 abbrev pub group : Layout → ℕ → ℕ

@@ -1,6 +1,7 @@
 -- The refusals 1 to 4 and 6, each a rung that answers its number where it applies and else 0. The first that applies wins. Assumes nothing.
 use Prim.Native.Nat.{ℕ, _*_}
 use mathlib.Core.Bool.{not}
+use mathlib.Core.Path.{_≡_}
 use lib.Dec.{ltb, leb, eqb}
 use Rattle.ground.specs.Ladder.{_when_else_, _then_}
 use Rattle.layout.specs.declared.Layout.{Layout}
@@ -37,3 +38,10 @@ imageRefusal len layout = layoutRefusal layout then lengthRung len layout
 -- 1, 2, 3, 4, 6: of a block in it
 unfoldable pub blockRefusal : ℕ → Layout → ℕ → ℕ
 blockRefusal len layout block = imageRefusal len layout then blockRung layout block
+
+-- the promises of check and check_image: the first that applies, and 0 where none does
+abbrev pub Checks : Layout → ℕ → Type 0
+Checks layout number = number ≡ layoutRefusal layout
+
+abbrev pub ChecksImage : ℕ → Layout → ℕ → Type 0
+ChecksImage len layout number = number ≡ imageRefusal len layout

@@ -1,6 +1,5 @@
 // Where a block lies in an image, or why it is refused.
-ghost use mathlib.Core.Path.{_≡_};
-ghost use Rattle.layout.specs.Site.{siteOf};
+ghost use Rattle.layout.specs.Site.{Locates};
 use super::Layout;
 use super::Site;
 use shape::rows;
@@ -8,7 +7,7 @@ use shape::rows;
 impl Layout {
     // Refusals 1 to 4 and 6, and then the index of the block's first row.
     pub fn locate(self, len: usize, block: u32) -> Site
-        ensures { λ r. ⌜ r ≡ siteOf len self block ⌝ }
+        ensures { λ r. ⌜ Locates len self block r ⌝ }
     {
         let number = self.check_image(len);
         if number != 0 {

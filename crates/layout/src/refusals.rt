@@ -1,7 +1,7 @@
 // The refusals of a layout and of an image's length, in the order of the table: the first that applies wins.
 ghost use mathlib.Core.Path.{_≡_};
-ghost use Rattle.layout.specs.Layout.{shapeOf, blocks};
-ghost use Rattle.layout.specs.Refusal.{layoutRefusal, imageRefusal};
+ghost use Rattle.layout.specs.Layout.{shapeOf, CountsBlocks};
+ghost use Rattle.layout.specs.Refusal.{Checks, ChecksImage};
 use super::Layout;
 use shape::Shape;
 use shape::rows;
@@ -9,7 +9,7 @@ use shape::rows;
 impl Layout {
     // N, how many blocks the groups hold.
     pub fn blocks(self) -> usize
-        ensures { λ r. ⌜ r ≡ blocks self ⌝ }
+        ensures { λ r. ⌜ CountsBlocks self r ⌝ }
     {
         (self.g as usize) * (self.s as usize)
     }
@@ -26,7 +26,7 @@ impl Layout {
 
     // Refusals 1, 2 and 3: shape, interleave and groups.
     pub fn check(self) -> u32
-        ensures { λ r. ⌜ r ≡ layoutRefusal self ⌝ }
+        ensures { λ r. ⌜ Checks self r ⌝ }
     {
         let shape = self.shape;
         let s = self.s;
@@ -54,7 +54,7 @@ impl Layout {
 
     // Refusals 1 to 4: those of the layout, and the image's length.
     pub fn check_image(self, len: usize) -> u32
-        ensures { λ r. ⌜ r ≡ imageRefusal len self ⌝ }
+        ensures { λ r. ⌜ ChecksImage len self r ⌝ }
     {
         let refused = self.check();
         if refused != 0 {

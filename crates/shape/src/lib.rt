@@ -1,6 +1,5 @@
 // The two shapes of a block: their rows and their data words, said once.
-ghost use mathlib.Core.Path.{_≡_};
-ghost use Rattle.shape.specs.Shape.{before, rows, words};
+ghost use Rattle.shape.specs.Shape.{CountsBefore, CountsRows, CountsWords};
 
 pub enum Shape {
     One,
@@ -15,7 +14,7 @@ pub const MOST_ROWS: usize = MOST_BEFORE + 1;
 
 // How many rows stand before the last.
 pub fn rows_before(shape: Shape) -> usize
-    ensures { λ r. ⌜ r ≡ before shape ⌝ }
+    ensures { λ r. ⌜ CountsBefore shape r ⌝ }
 {
     match shape {
         Shape::One => 15,
@@ -25,14 +24,14 @@ pub fn rows_before(shape: Shape) -> usize
 
 // How many rows a block has.
 pub fn rows(shape: Shape) -> usize
-    ensures { λ r. ⌜ r ≡ rows shape ⌝ }
+    ensures { λ r. ⌜ CountsRows shape r ⌝ }
 {
     rows_before(shape) + 1
 }
 
 // How many data words a block holds.
 pub fn words(shape: Shape) -> usize
-    ensures { λ r. ⌜ r ≡ words shape ⌝ }
+    ensures { λ r. ⌜ CountsWords shape r ⌝ }
 {
     match shape {
         Shape::One => 11,

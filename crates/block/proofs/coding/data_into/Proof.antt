@@ -1,15 +1,11 @@
--- `block::coding::data_into` meets its contract: its tables are, by computing, the data rows of each shape. Assumes nothing.
-use mathlib.Core.Bool.{not}
+-- `block::coding::data_into` meets its contract: its tables are those of the data rows of each shape. Assumes nothing.
 use Prim.Native.Nat.{ℕ}
 use mathlib.Core.List.{List}
 use mathlib.Core.Path.{_≡_, sym, ap, _∙_}
-use native.Mathlib.Omega.{arith}
 use borrow.Author.Needs.{needs}
-use Rattle.lane.specs.Rows.{power?, rowsWhere}
 use Rattle.shape.specs.declared.Shape.{Shape}
 use Rattle.block.specs.Block.{dataInto}
-use Rattle.block.specs.Inner.{copiedInto}
-use Rattle.block.proofs.Listed.{rows-listed}
+use Rattle.block.proofs.DataTables.{data-one, data-two, table-listed, table-copied}
 use Rattle.block.proofs.coding.data_into.Statement.{statement}
 use Rattle.block.proofs.coding.data_into.Tie as tie
 
@@ -31,8 +27,7 @@ slice-aggregate-copy-rows : tie.Need-slice-aggregate-copy-rows
 slice-aggregate-copy-rows c = search needs
 
 copy-rows-requires : tie.Need-copy-rows-requires
-unfolding rowsWhere power?
-copy-rows-requires c κs = rows-listed (λ p. not (power? 4 p)) 15 72 (omega arith)
+copy-rows-requires c κs = table-listed data-one
 
 enum-told-2 : tie.Need-enum-told-2
 enum-told-2 c = search needs
@@ -41,28 +36,27 @@ slice-aggregate-copy-rows-2 : tie.Need-slice-aggregate-copy-rows-2
 slice-aggregate-copy-rows-2 c = search needs
 
 copy-rows-requires-2 : tie.Need-copy-rows-requires-2
-unfolding rowsWhere power?
-copy-rows-requires-2 c κs = rows-listed (λ p. not (power? 7 p)) 71 72 (omega arith)
+copy-rows-requires-2 c κs = table-listed data-two
 
 same-length : tie.Need-same-length
 same-length c = search needs
 
 returns : tie.Need-returns
-unfolding dataInto copiedInto rowsWhere power?
 returns c =
     let told = c .before .before .before .before .before in
     let args = one told .args in
-    of-shape (told .enum-told .given .1) (args .block .now) (args .buffer .now) _ (c .before .before .copy-rows .ensures)
+    of-shape (told .enum-told .given .1) (args .block .now) (args .buffer .now) _
+    (c .before .before .copy-rows .ensures ∙ table-copied data-one (args .block .now) (args .buffer .now))
 
 same-length-2 : tie.Need-same-length-2
 same-length-2 c = search needs
 
 returns-2 : tie.Need-returns-2
-unfolding dataInto copiedInto rowsWhere power?
 returns-2 c =
     let told = c .before .before .before .before .before in
     let args = two told .args in
-    of-shape (told .enum-told2 .given .1) (args .block .now) (args .buffer .now) _ (c .before .before .copy-rows2 .ensures)
+    of-shape (told .enum-told2 .given .1) (args .block .now) (args .buffer .now) _
+    (c .before .before .copy-rows2 .ensures ∙ table-copied data-two (args .block .now) (args .buffer .now))
 
 pub data-into-spec : {M : Type 1} → statement M
 data-into-spec =

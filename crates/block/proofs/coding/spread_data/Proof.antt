@@ -1,14 +1,11 @@
--- `block::coding::spread_data` meets its contract: its tables are, by computing, the data rows of each shape. Assumes nothing.
-use mathlib.Core.Bool.{not}
+-- `block::coding::spread_data` meets its contract: its tables are those of the data rows of each shape. Assumes nothing.
 use Prim.Native.Nat.{ℕ}
 use mathlib.Core.List.{List}
 use mathlib.Core.Path.{_≡_, sym, ap, _∙_}
-use native.Mathlib.Omega.{arith}
 use borrow.Author.Needs.{needs}
-use Rattle.lane.specs.Rows.{power?, rowsWhere}
 use Rattle.shape.specs.declared.Shape.{Shape}
 use Rattle.block.specs.Block.{dataBlock}
-use Rattle.block.proofs.Listed.{rows-listed, rows-rising}
+use Rattle.block.proofs.DataTables.{data-one, data-two, table-listed, table-spread}
 use Rattle.block.proofs.coding.spread_data.Statement.{statement}
 use Rattle.block.proofs.coding.spread_data.Tie as tie
 
@@ -30,8 +27,7 @@ slice-aggregate-spread : tie.Need-slice-aggregate-spread
 slice-aggregate-spread c = search needs
 
 spread-requires : tie.Need-spread-requires
-unfolding rowsWhere power?
-spread-requires c κs = (rows-listed (λ p. not (power? 4 p)) 15 72 (omega arith), rows-rising (λ p. not (power? 4 p)) 15)
+spread-requires c κs = (table-listed data-one, data-one .rising)
 
 enum-told-2 : tie.Need-enum-told-2
 enum-told-2 c = search needs
@@ -40,16 +36,17 @@ slice-aggregate-spread-2 : tie.Need-slice-aggregate-spread-2
 slice-aggregate-spread-2 c = search needs
 
 spread-requires-2 : tie.Need-spread-requires-2
-unfolding rowsWhere power?
-spread-requires-2 c κs = (rows-listed (λ p. not (power? 7 p)) 71 72 (omega arith), rows-rising (λ p. not (power? 7 p)) 71)
+spread-requires-2 c κs = (table-listed data-two, data-two .rising)
 
 returns : tie.Need-returns
-unfolding dataBlock rowsWhere power?
-returns c = of-shape (c .before .before .enum-told .given .1) (one (c .before .before) .args .list .now) _ (c .spread .ensures)
+returns c =
+    let list = one (c .before .before) .args .list .now in
+    of-shape (c .before .before .enum-told .given .1) list _ (c .spread .ensures ∙ table-spread data-one list)
 
 returns-2 : tie.Need-returns-2
-unfolding dataBlock rowsWhere power?
-returns-2 c = of-shape (c .before .before .enum-told2 .given .1) (two (c .before .before) .args .list .now) _ (c .spread2 .ensures)
+returns-2 c =
+    let list = two (c .before .before) .args .list .now in
+    of-shape (c .before .before .enum-told2 .given .1) list _ (c .spread2 .ensures ∙ table-spread data-two list)
 
 pub spread-data-spec : {M : Type 1} → statement M
 spread-data-spec =

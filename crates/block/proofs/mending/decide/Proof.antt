@@ -11,11 +11,12 @@ use Rattle.block.specs.declared.Verdict.{Verdict}
 use Rattle.block.specs.declared.Verdict.the-variants.{Clean}
 use Rattle.shape.specs.Shape.{rows}
 use Rattle.block.specs.Block.{mendedBlock}
-use Rattle.block.specs.Verdict.{verdictOf}
+use Rattle.block.specs.Verdict.{verdictOf, Decides}
 use Rattle.block.specs.Inner.{sumsOf, InDoubt}
 use Rattle.shape.proofs.Sizes.{rows-fit}
 use Rattle.block.proofs.Judged.{clean-verdict, clean-block}
 use Rattle.block.proofs.Looked.{quiet, any-lt, parity-lt}
+use Rattle.block.proofs.Verdicts.{decides}
 use Rattle.block.proofs.mending.decide.Statement.{statement}
 use Rattle.block.proofs.mending.decide.Tie as tie
 
@@ -34,11 +35,12 @@ module _ (shape : Shape) (block : List ℕ) (sums : Sums) (are : sums ≡ sumsOf
   some-is : sums .some ≡ sumsOf shape block .some
   some-is = ap (λ (s : Sums). s .some) are
 
-  clean : sums .some < 2 ^ 32 → sums .some ≡ 0 → (Clean ≡ verdictOf shape block) × (block ≡ mendedBlock shape block)
+  clean : sums .some < 2 ^ 32 → sums .some ≡ 0 → Decides shape block Clean block
   clean small none =
       let fit : rows shape ≤ length block = omega (arith, rows-fit shape) in
       let lt : sumsOf shape block .some < 2 ^ 32 = omega (arith, some-is) in
-      let silent = quiet shape block (sym some-is ∙ none) in (
+      let silent = quiet shape block (sym some-is ∙ none) in
+      decides shape block (
         clean-verdict shape block (parity-lt shape block fit lt) (any-lt shape block fit lt) fit silent,
         clean-block shape block (parity-lt shape block fit lt) (any-lt shape block fit lt) fit silent,
       )
@@ -48,8 +50,8 @@ module _ (shape : Shape) (block : List ℕ) (sums : Sums) (are : sums ≡ sumsOf
 
 -- what is decided of the shape that is told is decided of the shape
 of-shape : {shape known : Shape} → shape ≡ known → (block after : List ℕ) (v : Verdict)
-    → (v ≡ verdictOf known block) × (after ≡ mendedBlock known block) → (v ≡ verdictOf shape block) × (after ≡ mendedBlock shape block)
-of-shape told block after v e = rw told e
+    → (v ≡ verdictOf known block) × (after ≡ mendedBlock known block) → Decides shape block v after
+of-shape {shape} told block after v e = decides shape block (rw told e)
 
 lane-sums-requires : tie.Need-lane-sums-requires
 lane-sums-requires c κs = c .lane-sums-arg2 .given .0

@@ -12,7 +12,7 @@ use Rattle.layout.specs.Layout.{rowsOf}
 use Rattle.layout.specs.Refusal.{imageRefusal, blockRefusal}
 use Rattle.layout.specs.Site.{siteOf}
 use Rattle.layout.proofs.Ladder.{accepted, block-accepted}
-use Rattle.layout.proofs.Sites.{is-site, nowhere}
+use Rattle.layout.proofs.Sites.{is-site, nowhere, locates}
 use Rattle.layout.proofs.Index.{first-row, first-alone}
 use Rattle.layout.proofs.Layout.locate.Statement.{statement}
 use Rattle.layout.proofs.Layout.locate.Tie as tie
@@ -39,14 +39,14 @@ check-image-requires c κs = search needs
 
 returns : tie.Need-returns
 unfolding siteOf blockRefusal
-returns c = sym (rw (← c .before .check-image .ensures, then-first _ _ (c .if1 .taken)) (nowhere _ _ _ (c .if1 .taken)))
+returns c = locates _ _ _ (sym (rw (← c .before .check-image .ensures, then-first _ _ (c .if1 .taken)) (nowhere _ _ _ (c .if1 .taken))))
 
 blocks-requires : tie.Need-blocks-requires
 blocks-requires c κs = search needs
 
 returns-2 : tie.Need-returns-2
 unfolding siteOf blockRefusal
-returns-2 c = sym (rw (passed (c .before .before), ← c .before .blocks2 .ensures, le-leb _ _ (c .if2 .taken)))
+returns-2 c = locates _ _ _ (sym (rw (passed (c .before .before), ← c .before .blocks2 .ensures, le-leb _ _ (c .if2 .taken))))
 
 shape-of-requires : tie.Need-shape-of-requires
 shape-of-requires c κs = search needs
@@ -69,11 +69,11 @@ mul-t12 c = omega (arith, small (c .before) _ (le-refl _))
 
 returns-3 : tie.Need-returns-3
 returns-3 c =
-    is-site _ _ _ (record {
+    locates _ _ _ (is-site _ _ _ (record {
       passed = none (there (c .before));
       same-shape = c .before .before .shape-of .ensures;
       first = rw (height (c .before)) (first-alone _ _ _ (c .if3 .taken));
-    })
+    }))
 
 cast-within : tie.Need-cast-within
 cast-within c = search needs
@@ -96,11 +96,11 @@ add-t14 c =
 
 returns-4 : tie.Need-returns-4
 returns-4 c =
-    is-site _ _ _ (record {
+    locates _ _ _ (is-site _ _ _ (record {
       passed = none (there (c .before));
       same-shape = c .before .before .shape-of .ensures;
       first = rw (height (c .before)) (first-row _ _ _);
-    })
+    }))
 
 pub locate-spec : {M : Type 1} → statement M
 locate-spec =
