@@ -1,35 +1,34 @@
--- The specification's number, and the words of verdict and count, tell the answers apart. Assumes nothing.
+-- The specification's number and what is said tell the answers apart, so an answer that keeps a promise is the call's. Assumes nothing.
 use Prim.Native.Nat.{ℕ, zero, suc}
-use mathlib.Core.Path.{_≡_, refl, sym, ap}
+use mathlib.Core.Path.{_≡_, refl, sym, ap, _∙_}
 use native.Mathlib.Omega.{arith}
-use Rattle.block.proofs.Verdicts.{verdict-words-some, verdict-words-told}
+use Rattle.block.specs.Verdict.{Said}
+use Rattle.block.proofs.Verdicts.{said-some, said-told}
 use Rattle.store.specs.declared.Answer.{Answer}
 use Rattle.store.specs.declared.Answer.the-variants.{Refused, Stored, Found}
-use Rattle.store.specs.Answer.{answerNumber, answerWords, answered}
+use Rattle.store.specs.Answer.{answerNumber, answerSaid, answered, Answers}
 
--- a refusal has a number that is not 0
-abbrev pub Proper : Answer → Type 0
-Proper (Refused number) = number ≡ 0 → ⊥
-Proper Stored = Unit {0}
-Proper (Found verdict) = Unit {0}
-
-pub answers-told : (a b : Answer) → Proper a → Proper b → answerNumber a ≡ answerNumber b → answerWords a ≡ answerWords b → a ≡ b
+pub answers-told : (a b : Answer) → (a ≡ Refused 0 → ⊥) → (b ≡ Refused 0 → ⊥) → answerNumber a ≡ answerNumber b → answerSaid a ≡ answerSaid b → a ≡ b
 answers-told (Refused m) (Refused n) p q e w = ap Refused e
-answers-told (Refused m) Stored p q e w = absurd (p e)
-answers-told (Refused m) (Found v) p q e w = absurd (p e)
-answers-told Stored (Refused n) p q e w = absurd (q (omega arith))
+answers-told (Refused m) Stored p q e w = absurd (p (ap Refused e))
+answers-told (Refused m) (Found v) p q e w = absurd (p (ap Refused e))
+answers-told Stored (Refused n) p q e w = absurd (q (ap Refused (sym e)))
 answers-told Stored Stored p q e w = refl
-answers-told Stored (Found v) p q e w = absurd (verdict-words-some v (sym w))
-answers-told (Found u) (Refused n) p q e w = absurd (q (omega arith))
-answers-told (Found u) Stored p q e w = absurd (verdict-words-some u w)
-answers-told (Found u) (Found v) p q e w = ap Found (verdict-words-told u v w)
+answers-told Stored (Found v) p q e w = absurd (said-some v (sym w))
+answers-told (Found u) (Refused n) p q e w = absurd (q (ap Refused (sym e)))
+answers-told (Found u) Stored p q e w = absurd (said-some u w)
+answers-told (Found u) (Found v) p q e w = ap Found (said-told u v w)
 
--- ---- a call that is refused: its number is the answer
+-- one answer has the numbers
+pub answers-one : {refusal : ℕ} {said : Said} (a b : Answer) → Answers refusal said a → Answers refusal said b → a ≡ b
+answers-one a b p q = answers-told a b (p .numbered) (q .numbered) (p .number ∙ sym (q .number)) (p .says ∙ sym (q .says))
 
--- so an answer is proper where the one that is not refused is
-pub answered-proper : (number : ℕ) (answer : Answer) → Proper answer → Proper (answered number answer)
-answered-proper zero answer p = p
-answered-proper (suc number) answer p = λ e. omega arith
+-- ---- a call that is refused: its number is the answer; and where it is not, what it found
+
+pub answers-by : (refusal : ℕ) (found : Answer) → answerNumber found ≡ 0 → (found ≡ Refused 0 → ⊥)
+    → Answers refusal (answerSaid found) (answered refusal found)
+answers-by zero found e p = record { number = e; says = refl; numbered = p }
+answers-by (suc refusal) found e p = record { number = refl; says = refl; numbered = λ z. let w : suc refusal ≡ 0 = ap answerNumber z in omega arith }
 
 pub answered-refused : (number : ℕ) (answer : Answer) → (number ≡ 0 → ⊥) → answered number answer ≡ Refused number
 answered-refused zero answer ne = absurd (ne refl)

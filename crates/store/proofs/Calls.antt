@@ -29,6 +29,7 @@ use Rattle.store.specs.Refusal.{dataRefusal}
 use Rattle.store.specs.Visit.{visitAnswer, visitAfter, Visits, VisitsAccepted}
 use Rattle.ground.proofs.Choices.{refused-kept}
 use Rattle.store.proofs.Answers.{answered-refused}
+use Rattle.store.proofs.Promises.{writes, reads, visits, visits-answer, visits-accepted}
 use Rattle.store.proofs.Image.{gathered-stride, placed-stride}
 use Rattle.store.proofs.Located.{list-fits}
 use Rattle.store.proofs.Strides.{left}
@@ -47,19 +48,16 @@ module _ (image : List ℕ) (layout : Layout) (block number : ℕ) where
   pub write-refused : (list : List ℕ) → dataRefusal (length image) layout block (length list) ≡ number → (number ≡ 0 → ⊥)
       → Writes image layout block list (Refused number) image
   unfolding writeAnswer writeAfter
-  write-refused list e ne =
-      record { answers = rw e (sym (answered-refused number _ ne)); leaves = rw e (sym (refused-kept number _ image ne)) }
+  write-refused list e ne = writes _ _ _ _ (rw e (sym (answered-refused number _ ne))) (rw e (sym (refused-kept number _ image ne)))
 
   pub read-refused : (buffer : List ℕ) → dataRefusal (length image) layout block (length buffer) ≡ number → (number ≡ 0 → ⊥)
       → Reads image layout block buffer (Refused number) buffer
   unfolding readAnswer readBuffer
-  read-refused buffer e ne =
-      record { answers = rw e (sym (answered-refused number _ ne)); leaves = rw e (sym (refused-kept number _ buffer ne)) }
+  read-refused buffer e ne = reads _ _ _ _ (rw e (sym (answered-refused number _ ne))) (rw e (sym (refused-kept number _ buffer ne)))
 
   pub visit-refused : blockRefusal (length image) layout block ≡ number → (number ≡ 0 → ⊥) → Visits image layout block (Refused number) image
   unfolding visitAnswer visitAfter
-  visit-refused e ne =
-      record { answers = rw e (sym (answered-refused number _ ne)); leaves = rw e (sym (refused-kept number _ image ne)) }
+  visit-refused e ne = visits _ _ _ (rw e (sym (answered-refused number _ ne))) (rw e (sym (refused-kept number _ image ne)))
 
 -- ---- accepted: from what the steps gave
 
@@ -77,11 +75,8 @@ module _ (image : List ℕ) {layout : Layout} {block : ℕ} {shape : Shape} {at 
   unfolding writeAnswer writeAfter
   write-stored list valid after fits e w =
       let none = list-fits (length image) layout block site (length list) fits in
-      record {
-        answers = rw none;
-        leaves = rw none
-            (w ∙ scattered valid ∙ ap (λ (l : List ℕ). placed layout block l image) (e ∙ ap (λ (k : Shape). validBlock k list) (site .same-shape)));
-      }
+      writes _ _ _ _ (rw none)
+      (rw none (w ∙ scattered valid ∙ ap (λ (l : List ℕ). placed layout block l image) (e ∙ ap (λ (k : Shape). validBlock k list) (site .same-shape))))
 
   module _ (found : List ℕ) (took : found ≡ strideRead image at (layout .s) blank (rows shape)) (v : Verdict) (says : v ≡ verdictOf shape found) where
     seen : found ≡ gathered layout block image
@@ -97,11 +92,9 @@ module _ (image : List ℕ) {layout : Layout} {block : ℕ} {shape : Shape} {at 
         → Visits image layout block (Found v) after
     unfolding visitAnswer visitAfter
     visit-found after w =
-        record {
-          answers = rw (site .passed) (ap Found judged);
-          leaves = rw (site .passed)
-              (w ∙ scattered (mendedBlock shape found) ∙ ap (λ (l : List ℕ). placed layout block l image) (mends (mendedBlock shape found) refl));
-        }
+        visits _ _ _ (rw (site .passed) (ap Found judged))
+        (rw (site .passed)
+        (w ∙ scattered (mendedBlock shape found) ∙ ap (λ (l : List ℕ). placed layout block l image) (mends (mendedBlock shape found) refl)))
 
     module _ (buffer : List ℕ) (fits : length buffer ≡ words shape) where
       read-answer : Found v ≡ readAnswer image layout block buffer
@@ -111,21 +104,17 @@ module _ (image : List ℕ) {layout : Layout} {block : ℕ} {shape : Shape} {at 
       pub read-lost : (m : ℕ) → v ≡ Lost m → Reads image layout block buffer (Found v) buffer
       unfolding readBuffer mendedData
       read-lost m l =
-          record {
-            answers = read-answer;
-            leaves = rw (list-fits (length image) layout block site (length buffer) fits)
-                (sym (refused-kept _ _ buffer (lost-some (shapeOf layout) (gathered layout block image) v judged m l)));
-          }
+          reads _ _ _ _ read-answer
+          (rw (list-fits (length image) layout block site (length buffer) fits)
+          (sym (refused-kept _ _ buffer (lost-some (shapeOf layout) (gathered layout block image) v judged m l))))
 
       pub read-data : NotLost v → (mended after : List ℕ) → mended ≡ mendedBlock shape found → after ≡ dataInto shape mended buffer
           → Reads image layout block buffer (Found v) after
       unfolding readBuffer mendedData
       read-data keys mended after e a =
-          record {
-            answers = read-answer;
-            leaves = rw (list-fits (length image) layout block site (length buffer) fits, not-lost (shapeOf layout) (gathered layout block image) v judged keys)
-                (a ∙ data-fills shape mended buffer fits ∙ ap₂ dataOf (site .same-shape) (mends mended e));
-          }
+          reads _ _ _ _ read-answer
+          (rw (list-fits (length image) layout block site (length buffer) fits, not-lost (shapeOf layout) (gathered layout block image) v judged keys)
+          (a ∙ data-fills shape mended buffer fits ∙ ap₂ dataOf (site .same-shape) (mends mended e)))
 
   -- a valid block is left where it lies
   pub visit-clean : Clean ≡ verdictOf shape (strideRead image at (layout .s) blank (rows shape)) → Visits image layout block (Found Clean) image
@@ -134,4 +123,4 @@ module _ (image : List ℕ) {layout : Layout} {block : ℕ} {shape : Shape} {at 
 -- a visit for a caller who wants its verdict alone
 pub accepts : {image : List ℕ} {layout : Layout} {block : ℕ} {answer : Answer} {after : List ℕ} → Visits image layout block answer after
     → VisitsAccepted image layout block (verdictIn answer) after
-accepts visited = record { says = ap verdictIn (visited .answers); leaves = visited .leaves }
+accepts visited = visits-accepted _ _ _ (ap verdictIn (visits-answer _ _ _ visited)) (visited .leaves)

@@ -6,5 +6,6 @@ pub mod Strides
 pub mod Cleared
 pub mod FreshBlocks
 pub mod Answers
+pub mod Promises
 pub mod After
 pub mod Calls

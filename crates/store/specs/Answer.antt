@@ -2,10 +2,11 @@
 -- write then answers no verdict and no count, read and visit those of the block. Assumes nothing.
 use Prim.Native.Nat.{ℕ}
 use mathlib.Core.List.{List}
+use mathlib.Core.Path.{_≡_}
 use Rattle.ground.specs.Choice.{ifZero}
 use Rattle.block.specs.declared.Verdict.{Verdict}
 use Rattle.block.specs.declared.Verdict.the-variants.{Clean}
-use Rattle.block.specs.Verdict.{verdictNumber, verdictCount, verdictWords, noVerdict}
+use Rattle.block.specs.Verdict.{verdictNumber, verdictCount, Said, unsaid, saidWords}
 use Rattle.store.specs.declared.Answer.{Answer}
 use Rattle.store.specs.declared.Answer.the-variants.{Refused, Stored, Found}
 
@@ -24,11 +25,21 @@ answerCount (Refused number) = 0
 answerCount Stored = 0
 answerCount (Found verdict) = verdictCount verdict
 
+abbrev pub answerSaid : Answer → Said
+answerSaid answer = record { verdict = answerVerdict answer; count = answerCount answer }
+
 -- verdict and count as words
 abbrev pub answerWords : Answer → List ℕ
-answerWords (Refused number) = noVerdict
-answerWords Stored = noVerdict
-answerWords (Found verdict) = verdictWords verdict
+answerWords answer = saidWords (answerSaid answer)
+
+-- an answer in numbers, by its call's refusal and what it says where there is none
+pub record Answers (refusal : ℕ) (said : Said) (answer : Answer) : Type 0 where
+  pub number : answerNumber answer ≡ refusal
+  pub says : answerSaid answer ≡ ifZero refusal said unsaid
+  -- no refusal has the number 0
+  pub numbered : answer ≡ Refused 0 → ⊥
+
+-- ---- the answer itself, as callers use it
 
 -- the verdict of an answer, and clean where it has none
 abbrev pub verdictIn : Answer → Verdict

@@ -6,10 +6,10 @@ use lib.ListN.{length}
 use Rattle.shape.specs.declared.Shape.{Shape}
 use Rattle.ground.specs.Choice.{ifZero}
 use Rattle.block.specs.Block.{lanesLost, mendedBlock, dataOf}
-use Rattle.block.specs.Verdict.{verdictOf}
+use Rattle.block.specs.Verdict.{toSay, verdictOf}
 use Rattle.store.specs.declared.Answer.{Answer}
 use Rattle.store.specs.declared.Answer.the-variants.{Found}
-use Rattle.store.specs.Answer.{answered}
+use Rattle.store.specs.Answer.{Answers, answered}
 use Rattle.store.specs.Image.{gathered}
 use Rattle.store.specs.Refusal.{dataRefusal}
 use Rattle.layout.specs.declared.Layout.{Layout}
@@ -18,12 +18,6 @@ use Rattle.layout.specs.Layout.{shapeOf}
 -- the mended data of a gathered block; the buffer as it was where a lane is lost
 unfoldable pub mendedData : Shape → List ℕ → List ℕ → List ℕ
 mendedData shape block buffer = ifZero (lanesLost shape block) (dataOf shape (mendedBlock shape block)) buffer
-
--- what read answers
-unfoldable pub readAnswer : List ℕ → Layout → ℕ → List ℕ → Answer
-readAnswer image layout block buffer =
-    answered (dataRefusal (length image) layout block (length buffer))
-    (Found (verdictOf (shapeOf layout) (gathered layout block image)))
 
 -- the buffer that read leaves
 unfoldable pub readBuffer : List ℕ → Layout → ℕ → List ℕ → List ℕ
@@ -34,5 +28,11 @@ readBuffer image layout block buffer =
 
 -- the promise of read: what it answers, and the buffer that it leaves
 pub record Reads (image : List ℕ) (layout : Layout) (block : ℕ) (buffer : List ℕ) (answer : Answer) (after : List ℕ) : Type 0 where
-  pub answers : answer ≡ readAnswer image layout block buffer
+  pub answers : Answers (dataRefusal (length image) layout block (length buffer)) (toSay (shapeOf layout) (gathered layout block image)) answer
   pub leaves : after ≡ readBuffer image layout block buffer
+
+-- the answer itself
+unfoldable pub readAnswer : List ℕ → Layout → ℕ → List ℕ → Answer
+readAnswer image layout block buffer =
+    answered (dataRefusal (length image) layout block (length buffer))
+    (Found (verdictOf (shapeOf layout) (gathered layout block image)))

@@ -6,20 +6,14 @@ use lib.ListN.{length}
 use Rattle.ground.specs.Choice.{ifZero}
 use Rattle.block.specs.Block.{mendedBlock}
 use Rattle.block.specs.declared.Verdict.{Verdict}
-use Rattle.block.specs.Verdict.{verdictOf}
+use Rattle.block.specs.Verdict.{saidOf, saidBy, toSay, verdictOf}
 use Rattle.store.specs.declared.Answer.{Answer}
 use Rattle.store.specs.declared.Answer.the-variants.{Found}
-use Rattle.store.specs.Answer.{answered, verdictIn}
+use Rattle.store.specs.Answer.{Answers, answered}
 use Rattle.store.specs.Image.{gathered, placed}
 use Rattle.layout.specs.Refusal.{blockRefusal}
 use Rattle.layout.specs.declared.Layout.{Layout}
 use Rattle.layout.specs.Layout.{shapeOf}
-
--- what visit answers
-unfoldable pub visitAnswer : List ℕ → Layout → ℕ → Answer
-visitAnswer image layout block =
-    answered (blockRefusal (length image) layout block)
-    (Found (verdictOf (shapeOf layout) (gathered layout block image)))
 
 -- the image that visit leaves
 unfoldable pub visitAfter : List ℕ → Layout → ℕ → List ℕ
@@ -30,10 +24,16 @@ visitAfter image layout block =
 
 -- the promise of visit: what it answers, and the image that it leaves
 pub record Visits (image : List ℕ) (layout : Layout) (block : ℕ) (answer : Answer) (after : List ℕ) : Type 0 where
-  pub answers : answer ≡ visitAnswer image layout block
+  pub answers : Answers (blockRefusal (length image) layout block) (toSay (shapeOf layout) (gathered layout block image)) answer
   pub leaves : after ≡ visitAfter image layout block
 
--- the promise of visit_accepted: the verdict of that answer, and the image that a visit leaves
-pub record VisitsAccepted (image : List ℕ) (layout : Layout) (block : ℕ) (verdict : Verdict) (after : List ℕ) : Type 0 where
-  pub says : verdict ≡ verdictIn (visitAnswer image layout block)
+-- the promise of visit_accepted: what is said, clean 0 where the visit is refused, and the image that a visit leaves
+pub record VisitsAccepted (image : List ℕ) (layout : Layout) (block : ℕ) (found : Verdict) (after : List ℕ) : Type 0 where
+  pub says : saidOf found ≡ ifZero (blockRefusal (length image) layout block) (toSay (shapeOf layout) (gathered layout block image)) (saidBy 0 0)
   pub leaves : after ≡ visitAfter image layout block
+
+-- the answer itself
+unfoldable pub visitAnswer : List ℕ → Layout → ℕ → Answer
+visitAnswer image layout block =
+    answered (blockRefusal (length image) layout block)
+    (Found (verdictOf (shapeOf layout) (gathered layout block image)))

@@ -4,7 +4,8 @@ use borrow.Author.Needs.{needs}
 use native.Mathlib.Omega.{arith}
 use lib.ListN.{length}
 use Rattle.shape.specs.Shape.{words}
-use Rattle.layout.proofs.Sites.{Located, located}
+use Rattle.block.proofs.Verdicts.{says-verdict}
+use Rattle.layout.proofs.Sites.{Located, located, locates-is}
 use Rattle.store.proofs.Calls.{read-refused, read-lost, read-data}
 use Rattle.store.proofs.Located.{inside, data-refused, list-refused}
 use Rattle.store.proofs.reading.read.Statement.{statement}
@@ -16,7 +17,7 @@ start c = c .before .before .before .before .before .before
 
 site : (c : tie.After-known-told2) → let a = start c .args in let found = c .before .shape .given .0 in
     Located (length (a .image .now)) (a .layout) (a .block) (found .0) (found .1 .0)
-site c = located _ _ _ _ _ (sym (c .before .before .before .locate .ensures) ∙ c .before .shape .given .1)
+site c = located _ _ _ _ _ (sym (locates-is _ _ _ (c .before .before .before .locate .ensures)) ∙ c .before .shape .given .1)
 
 -- the buffer is of the exact length
 fits : (c : tie.Else1) → length (start (c .before .before) .args .buffer .now) ≡ words (c .before .before .before .shape .given .0 .0)
@@ -64,7 +65,7 @@ returns-2 c =
     let said = c .before .before in
     let rows = decided said in
     let exact = gathers rows in
-    read-lost _ (site (exact .before .before)) _ (rows .gather .ensures) _ (said .decide .ensures .0) _ (fits exact) _ (c .enum-told .given .1)
+    read-lost _ (site (exact .before .before)) _ (rows .gather .ensures) _ (says-verdict _ _ (said .decide .ensures .says)) _ (fits exact) _ (c .enum-told .given .1)
 
 data-into-requires : tie.Need-data-into-requires
 data-into-requires c κs = search needs
@@ -72,7 +73,7 @@ data-into-requires c κs = search needs
 returns-3 : tie.Need-returns-3
 returns-3 c =
     let found = c .before .before .before in
-    let none = sym (found .locate .ensures) ∙ c .before .number .given .1 in
+    let none = sym (locates-is _ _ _ (found .locate .ensures)) ∙ c .before .number .given .1 in
     let r = data-refused _ _ _ _ (length (found .before .before .before .args .buffer .now)) none in
     read-refused _ _ _ _ _ (r .0) (r .1)
 
@@ -86,7 +87,7 @@ returns-4 c =
     let rows = decided said in
     let exact = gathers rows in
     let mends = said .decide .ensures in
-    read-data _ (site (exact .before .before)) _ (rows .gather .ensures) _ (mends .0) _ (fits exact) (not-lost .match2 .keys2) _ _ (mends .1)
+    read-data _ (site (exact .before .before)) _ (rows .gather .ensures) _ (says-verdict _ _ (mends .says)) _ (fits exact) (not-lost .match2 .keys2) _ _ (mends .leaves)
     (c .before .before .data-into .ensures)
 
 pub read-spec : {M : Type 1} → statement M

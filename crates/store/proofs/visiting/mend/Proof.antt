@@ -2,6 +2,7 @@
 use mathlib.Core.Path.{ap, _∙_}
 use borrow.Author.Needs.{needs}
 use Rattle.block.specs.Verdict.{verdictOf}
+use Rattle.block.proofs.Verdicts.{says-verdict}
 use Rattle.store.proofs.Strides.{left}
 use Rattle.store.proofs.visiting.mend.Statement.{statement}
 use Rattle.store.proofs.visiting.mend.Tie as tie
@@ -26,14 +27,14 @@ returns c =
     let judged = c .before .before .before .before .before .before .before in
     let took = judged .before .before .gather .ensures in
     let decided = judged .decide .ensures in
-    rw (← took, ← decided .1) (decided .0, c .before .before .scatter .ensures)
+    rw (← took, ← decided .leaves) (says-verdict _ _ (decided .says), c .before .before .scatter .ensures)
 
 same-length-2 : tie.Need-same-length-2
 same-length-2 c = search needs
 
 returns-2 : tie.Need-returns-2
 returns-2 c =
-    let says = c .before .decide .ensures .0 ∙ ap (verdictOf _) (c .before .before .before .gather .ensures) in
+    let says = says-verdict _ _ (c .before .decide .ensures .says) ∙ ap (verdictOf _) (c .before .before .before .gather .ensures) in
     (says, left _ _ _ _ _ says (c .match .keys2))
 
 pub mend-spec : {M : Type 1} → statement M

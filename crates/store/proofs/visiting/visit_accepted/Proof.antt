@@ -2,7 +2,7 @@
 use mathlib.Core.Path.{refl, sym, _∙_}
 use borrow.Author.Needs.{needs}
 use lib.ListN.{length}
-use Rattle.layout.proofs.Sites.{Located, located, refused}
+use Rattle.layout.proofs.Sites.{Located, located, refused, locates-is}
 use Rattle.store.proofs.Calls.{visit-refused, visit-found, visit-clean, accepts}
 use Rattle.store.proofs.Located.{inside}
 use Rattle.store.proofs.Strides.{clean-there}
@@ -15,7 +15,7 @@ start c = c .before .before .before .before .before
 
 site : (c : tie.After-known-told) → let a = start c .args in let found = c .before .shape .given .0 in
     Located (length (a .image .now)) (a .layout) (a .block) (found .0) (found .1 .0)
-site c = located _ _ _ _ _ (sym (c .before .before .before .locate .ensures) ∙ c .before .shape .given .1)
+site c = located _ _ _ _ _ (sym (locates-is _ _ _ (c .before .before .before .locate .ensures)) ∙ c .before .shape .given .1)
 
 locate-requires : tie.Need-locate-requires
 locate-requires c κs = search needs
@@ -45,7 +45,7 @@ mend-requires c κs = inside _ _ _ (site (c .before .before))
 
 returns-2 : tie.Need-returns-2
 returns-2 c =
-    let r = refused _ _ _ _ (sym (c .before .before .locate .ensures) ∙ c .enum-told .given .1) in
+    let r = refused _ _ _ _ (sym (locates-is _ _ _ (c .before .before .locate .ensures)) ∙ c .enum-told .given .1) in
     accepts (visit-refused _ _ _ _ (r .0) (r .1))
 
 same-length-2 : tie.Need-same-length-2

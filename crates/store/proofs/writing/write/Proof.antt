@@ -4,7 +4,7 @@ use borrow.Author.Needs.{needs}
 use native.Mathlib.Omega.{arith}
 use lib.ListN.{length}
 use Rattle.shape.specs.Shape.{words}
-use Rattle.layout.proofs.Sites.{Located, located}
+use Rattle.layout.proofs.Sites.{Located, located, locates-is}
 use Rattle.store.proofs.Calls.{write-refused, write-stored}
 use Rattle.store.proofs.Located.{inside, data-refused, list-refused}
 use Rattle.store.proofs.writing.write.Statement.{statement}
@@ -16,7 +16,7 @@ start c = c .before .before .before .before .before .before
 
 site : (c : tie.After-known-told2) → let a = start c .args in let found = c .before .shape .given .0 in
     Located (length (a .image .now)) (a .layout) (a .block) (found .0) (found .1 .0)
-site c = located _ _ _ _ _ (sym (c .before .before .before .locate .ensures) ∙ c .before .shape .given .1)
+site c = located _ _ _ _ _ (sym (locates-is _ _ _ (c .before .before .before .locate .ensures)) ∙ c .before .shape .given .1)
 
 -- the list is of the exact length
 fits : (c : tie.Else1) → length (start (c .before .before) .args .list .now) ≡ words (c .before .before .before .shape .given .0 .0)
@@ -56,7 +56,7 @@ scatter-requires c κs = inside _ _ _ (site (exact c .before .before))
 returns-2 : tie.Need-returns-2
 returns-2 c =
     let found = c .before .before .before in
-    let none = sym (found .locate .ensures) ∙ c .before .number .given .1 in
+    let none = sym (locates-is _ _ _ (found .locate .ensures)) ∙ c .before .number .given .1 in
     let r = data-refused _ _ _ _ (length (found .before .before .before .args .list .now)) none in
     write-refused _ _ _ _ _ (r .0) (r .1)
 
