@@ -21,17 +21,18 @@ use Rattle.patrol.specs.Format.{noRecord, formatted, Formats}
 use Rattle.patrol.specs.Ask.{withRota, askedNow, asked}
 use Rattle.patrol.specs.Turn.{reported, patrolled, turnedNow, turned, turnAfter, Turns}
 use Rattle.patrol.specs.Inner.{Ready}
+use Rattle.patrol.proofs.Promises.{formats, turns}
 
 -- ---- format
 
 module _ (image : List ℕ) (layout : Layout) (number : ℕ) (after : List ℕ) (cleared : Clears image layout number after) (rota : Rota) (new : rota ≡ fresh) where
   pub format-refused : (number ≡ 0 → ⊥) → Formats image layout (record { number = number; back = record { layout = layoutOf 0 0 0; rota = rota } }) after
   unfolding formatted
-  format-refused ne = record { answers = rw (← cleared .answers, refused-kept number _ noRecord ne, new); leaves = cleared .leaves }
+  format-refused ne = formats _ _ (rw (← cleared .answers, refused-kept number _ noRecord ne, new)) (cleared .leaves)
 
   pub format-done : number ≡ 0 → Formats image layout (record { number = number; back = record { layout = layout; rota = rota } }) after
   unfolding formatted
-  format-done z = record { answers = rw (← cleared .answers, z, new); leaves = cleared .leaves }
+  format-done z = formats _ _ (rw (← cleared .answers, z, new)) (cleared .leaves)
 
 -- ---- ask
 
@@ -53,7 +54,7 @@ module _ (r : Record) (number : ℕ) where
       → Turns r image (record { report = Refused number; back = r }) image
   unfolding turned turnAfter
   turn-refused image checked ne =
-      record { answers = rw (← checked) (sym (refused-kept number _ _ ne)); leaves = rw (← checked) (sym (refused-kept number _ image ne)) }
+      turns _ _ (rw (← checked) (sym (refused-kept number _ _ ne))) (rw (← checked) (sym (refused-kept number _ image ne)))
 
   module _ (passed : number ≡ 0) (answer : RotaTurned) (moved : answer ≡ turnedNow r) where
     pub turn-ready : (len : ℕ) → number ≡ imageRefusal len (r .layout) → Ready (r .layout) len (answer .due)
@@ -64,4 +65,4 @@ module _ (r : Record) (number : ℕ) where
         → Turns r image (record { report = report; back = withRota r (answer .rota) }) after
     unfolding turned turnAfter
     turn-reported image checked report after e =
-        record { answers = rw (← checked, passed, e .0, moved); leaves = rw (← checked, passed, e .1, moved) }
+        turns _ _ (rw (← checked, passed, e .0, moved)) (rw (← checked, passed, e .1, moved))

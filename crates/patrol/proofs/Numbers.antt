@@ -5,7 +5,8 @@ use mathlib.Core.List.{List, _++_}
 use native.Mathlib.Omega.{arith}
 use lib.ListN.{length}
 use Rattle.ground.specs.Ladder.{_then_}
-use Rattle.block.proofs.Verdicts.{verdict-words-told, verdict-words-some}
+use Rattle.block.specs.declared.Verdict.{Verdict}
+use Rattle.block.proofs.Verdicts.{said-told, said-some}
 use Rattle.layout.specs.declared.Layout.{Layout}
 use Rattle.layout.specs.Layout.{blocks}
 use Rattle.layout.specs.Refusal.{layoutRefusal, imageRefusal}
@@ -21,25 +22,35 @@ use Rattle.patrol.specs.declared.Report.{Report}
 use Rattle.patrol.specs.declared.Report.the-variants.{Refused, One, Two}
 use Rattle.patrol.specs.Ask.{askedBy, asked}
 use Rattle.patrol.specs.Turn.{reported, turnedNow, turnedBy, turned}
-use Rattle.patrol.specs.Numbers.{reportNumber, noVisit, reportWords}
+use Rattle.patrol.specs.Numbers.{Seen, seenOf, unseen, reportNumber, reportFirst, reportSecond, noVisit, reportWords}
 
 -- ---- the numbers tell the reports apart
 
-pub reports-told : (a b : Report) → (a ≡ Refused 0 → ⊥) → (b ≡ Refused 0 → ⊥) → reportNumber a ≡ reportNumber b → reportWords a ≡ reportWords b → a ≡ b
-reports-told (Refused m) (Refused n) p q e w = ap Refused e
-reports-told (Refused m) (One f v) p q e w = absurd (p (ap Refused e))
-reports-told (Refused m) (Two f v g u) p q e w = absurd (p (ap Refused e))
-reports-told (One f v) (Refused n) p q e w = absurd (q (ap Refused (sym e)))
-reports-told (One f v) (One h x) p q e w = ap₂ One (cc) (verdict-words-told v x (cc))
-reports-told (One f v) (Two h x k y) p q e w = absurd (verdict-words-some y (cc))
-reports-told (Two f v g u) (Refused n) p q e w = absurd (q (ap Refused (sym e)))
-reports-told (Two f v g u) (One h x) p q e w = absurd (verdict-words-some u (cc))
-reports-told (Two f v g u) (Two h x k y) p q e w =
-    let first : f ≡ h = cc in
-    let same = verdict-words-told v x (cc) in
-    let second : g ≡ k = cc in
-    let other = verdict-words-told u y (cc) in
-    λ i. Two (first i) (same i) (second i) (other i)
+-- a visit is told by its block and what is said
+seen-told : {a b : ℕ} (v w : Verdict) → seenOf a v ≡ seenOf b w → (a ≡ b) × (v ≡ w)
+seen-told v w e = (ap (λ (s : Seen). s .block) e, said-told v w (ap (λ (s : Seen). s .said) e))
+
+seen-some : (a : ℕ) (v : Verdict) → seenOf a v ≡ unseen → ⊥
+seen-some a v e = said-some v (ap (λ (s : Seen). s .said) e)
+
+pub reports-told : (a b : Report) → (a ≡ Refused 0 → ⊥) → (b ≡ Refused 0 → ⊥) → reportNumber a ≡ reportNumber b → reportFirst a ≡ reportFirst b
+    → reportSecond a ≡ reportSecond b → a ≡ b
+reports-told (Refused m) (Refused n) p q e f g = ap Refused e
+reports-told (Refused m) (One h x) p q e f g = absurd (p (ap Refused e))
+reports-told (Refused m) (Two h x k y) p q e f g = absurd (p (ap Refused e))
+reports-told (One a v) (Refused n) p q e f g = absurd (q (ap Refused (sym e)))
+reports-told (One a v) (One h x) p q e f g = let s = seen-told v x f in ap₂ One (s .0) (s .1)
+reports-told (One a v) (Two h x k y) p q e f g = absurd (seen-some k y (sym g))
+reports-told (Two a v b u) (Refused n) p q e f g = absurd (q (ap Refused (sym e)))
+reports-told (Two a v b u) (One h x) p q e f g = absurd (seen-some b u g)
+reports-told (Two a v b u) (Two h x k y) p q e f g =
+    let s = seen-told v x f in
+    let t = seen-told u y g in
+    let first = s .0 in
+    let verdict = s .1 in
+    let second = t .0 in
+    let other = t .1 in
+    λ i. Two (first i) (verdict i) (second i) (other i)
 
 -- a refusal has block, verdict, count and place 0
 pub report-bare : (a : Report) → (reportNumber a ≡ 0 → ⊥) → reportWords a ≡ noVisit ++ noVisit

@@ -13,6 +13,7 @@ use Rattle.rota.specs.declared.Due.the-variants.{Refused as NoneDue, One as One
 use Rattle.store.specs.Answer.{verdictIn}
 use Rattle.store.specs.Visit.{visitAnswer, VisitsAccepted}
 use Rattle.store.proofs.After.{visit-untouched}
+use Rattle.store.proofs.Promises.{accepted-verdict}
 use Rattle.patrol.specs.declared.Report.the-variants.{Refused, One, Two}
 use Rattle.patrol.specs.Turn.{seen, visited, reported, patrolled}
 use Rattle.patrol.specs.Inner.{Ready}
@@ -32,7 +33,7 @@ module _ (layout : Layout) (image : List ℕ) (due : Due) (ready : Ready layout 
 
   module _ (first : ℕ) (v : Verdict) (between : List ℕ) (met : VisitsAccepted image layout first v between) where
     saw : first < blocks layout → v ≡ seen layout image first
-    saw h = met .says ∙ sees layout image first (block-accepted layout (length image) first (ready .passed) h)
+    saw h = accepted-verdict image layout first met ∙ sees layout image first (block-accepted layout (length image) first (ready .passed) h)
 
     pub one-visited : due ≡ OneDue first → (One first v ≡ reported layout image due) × (between ≡ patrolled layout image due)
     one-visited e = rw e (ap (One first) (saw (inside (OneDue first) e .inside refl .0)), met .leaves)
@@ -45,5 +46,5 @@ module _ (layout : Layout) (image : List ℕ) (due : Due) (ready : Ready layout 
         let size : length between ≡ length image = ap length (met .leaves) ∙ visit-untouched image layout first .size in
         let fine : blockRefusal (length between) layout second ≡ 0 = rw size (block-accepted layout (length image) second (ready .passed) (below .1)) in
         let later : w ≡ seen layout (visited layout image first) second =
-        also .says ∙ sees layout between second fine ∙ ap (λ (l : List ℕ). seen layout l second) (met .leaves) in
+        accepted-verdict between layout second also ∙ sees layout between second fine ∙ ap (λ (l : List ℕ). seen layout l second) (met .leaves) in
         rw (e, saw (below .0), later) (refl, also .leaves ∙ ap (λ (l : List ℕ). visited layout l second) (met .leaves))

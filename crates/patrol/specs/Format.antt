@@ -21,15 +21,16 @@ freshRecord layout = record { layout = layout; rota = fresh }
 abbrev pub noRecord : Record
 noRecord = freshRecord (layoutOf 0 0 0)
 
--- what format answers
+-- the promise of format: the number of its refusal, or 0, the record, and the image that it leaves
+pub record Formats (image : List ℕ) (layout : Layout) (answer : Formatted) (after : List ℕ) : Type 0 where
+  pub number : answer .number ≡ imageRefusal (length image) layout
+  pub back : answer .back ≡ ifZero (imageRefusal (length image) layout) (freshRecord layout) noRecord
+  pub leaves : after ≡ freshAfter image layout
+
+-- the answer itself, as callers use it
 unfoldable pub formatted : List ℕ → Layout → Formatted
 formatted image layout =
     record {
       number = imageRefusal (length image) layout;
       back = ifZero (imageRefusal (length image) layout) (freshRecord layout) noRecord;
     }
-
--- the promise of format: what it answers, and the image that it leaves
-pub record Formats (image : List ℕ) (layout : Layout) (answer : Formatted) (after : List ℕ) : Type 0 where
-  pub answers : answer ≡ formatted image layout
-  pub leaves : after ≡ freshAfter image layout

@@ -1,13 +1,12 @@
 // Ask: a block put on the waiting list of the record.
-ghost use mathlib.Core.Path.{_≡_};
-ghost use Rattle.patrol.specs.Ask.{asked};
+ghost use Rattle.patrol.specs.Ask.{Asks};
 use super::Asked;
 use super::Record;
 use rota::Place;
 
 impl Record {
     pub fn ask(self, block: u32) -> Asked
-        ensures { λ r. ⌜ r ≡ asked self block ⌝ }
+        ensures { λ r. ⌜ Asks self block r ⌝ }
     {
         let layout = self.layout;
         let number = layout.check();

@@ -1,16 +1,18 @@
 -- The numbers of an answer are those of its call's refusals, they tell the answers apart, and no refusal has the number 0.
 -- Assumes nothing.
 use Prim.Native.Nat.{ℕ, zero, suc}
-use mathlib.Core.Bool.{true≢false, false≢true}
-use mathlib.Core.Path.{_≡_, refl, sym, ap, ap₂}
+use mathlib.Core.Bool.{Bool, false, true≢false, false≢true}
+use mathlib.Core.Path.{_≡_, refl, sym, ap, ap₂, _∙_}
 use mathlib.Core.List.{List, [], _∷_}
 use native.Mathlib.Omega.{arith}
+use lib.ListN.{getD}
 use Rattle.ground.specs.Choice.{ifZero}
-use Rattle.rota.specs.Line.{asksOf}
+use Rattle.rota.specs.Line.{some?, asksOf}
 use Rattle.rota.specs.Asking.{askPlace, joined}
 use Rattle.rota.specs.Turning.{dueOf, movedOn}
 use Rattle.rota.specs.Record.{planOf, rotaOf, askNumber, rotaAsked, turnNumber, rotaTurned}
 use Rattle.rota.specs.Numbers.{placeNumber, placeGiven, dueNumber, firstBlock, secondBlock, served}
+use Rattle.rota.specs.Calls.{RotaAsks, RotaTurns}
 use Rattle.rota.specs.declared.Rota.{Rota}
 use Rattle.rota.specs.declared.Place.{Place}
 use Rattle.rota.specs.declared.Place.the-variants.{Given, Refused as NoPlace}
@@ -42,7 +44,7 @@ module _ (n : ℕ) (r : Rota) where
 
   module _ (b : ℕ) where
     -- the answer, by the number of the refusal
-    abbrev answerBy : ℕ → RotaAsked
+    abbrev pub answerBy : ℕ → RotaAsked
     answerBy number =
         ifZero number (record { place = Given (askPlace (planOf r) b); rota = rotaOf (joined (planOf r) b) }) (record { place = NoPlace number; rota = r })
 
@@ -66,10 +68,41 @@ module _ (n : ℕ) (r : Rota) where
         go zero e = let z : _≡_ {A = ℕ} 0 1 = cc in omega arith
         go (suc v) e = let z : suc v ≡ 0 = ap placeNumber e in omega arith
 
+    asks-asked : RotaAsks n r b (rotaAsked n r b)
+    unfolding rotaAsked
+    asks-asked =
+        record {
+          number = ask-number;
+          place = place (askNumber n r b);
+          numbered = ask-numbered;
+          back = back (askNumber n r b);
+        }
+      where
+        place : (v : ℕ) → placeGiven (answerBy v .place) ≡ ifZero v (askPlace (planOf r) b) 0
+        place zero = refl
+        place (suc v) = refl
+
+        back : (v : ℕ) → answerBy v .rota ≡ ifZero v (rotaOf (joined (planOf r) b)) r
+        back zero = refl
+        back (suc v) = refl
+
+    -- one answer keeps the promise: the rota's own
+    pub one-asked : {answer other : RotaAsked} → RotaAsks n r b answer → RotaAsks n r b other → answer ≡ other
+    one-asked {answer} {other} p q =
+        let place = place-told (answer .place) (other .place) (p .numbered) (q .numbered) (p .number ∙ sym (q .number)) (p .place ∙ sym (q .place)) in
+        let rota = p .back ∙ sym (q .back) in
+        λ i. record { place = place i; rota = rota i }
+
+    pub asks : {answer : RotaAsked} → answer ≡ rotaAsked n r b → RotaAsks n r b answer
+    asks e = rw e asks-asked
+
+    pub asks-is : {answer : RotaAsked} → RotaAsks n r b answer → answer ≡ rotaAsked n r b
+    asks-is p = one-asked p asks-asked
+
   -- ---- turn
 
   -- the answer, by the number of the refusal and the waiting list
-  abbrev turnBy : ℕ → List ℕ → RotaTurned
+  abbrev pub turnBy : ℕ → List ℕ → RotaTurned
   turnBy number l =
       ifZero number (record { due = dueOf (r .next) l; rota = rotaOf (movedOn n (planOf r)) }) (record { due = NoneDue number; rota = r })
 
@@ -94,3 +127,48 @@ module _ (n : ℕ) (r : Rota) where
       go zero [] e = let z : _≡_ {A = ℕ} 0 1 = cc in omega arith
       go zero (a ∷ l) e = let z : _≡_ {A = ℕ} 0 1 = cc in omega arith
       go (suc v) l e = let z : suc v ≡ 0 = ap dueNumber e in omega arith
+
+  turns-turned : RotaTurns n r (rotaTurned n r)
+  unfolding rotaTurned
+  turns-turned =
+      record {
+        number = turn-number;
+        first = first (turnNumber n r) (asksOf (r .line));
+        second = second (turnNumber n r) (asksOf (r .line));
+        asked = asked (turnNumber n r) (asksOf (r .line));
+        numbered = turn-numbered;
+        back = back (turnNumber n r);
+      }
+    where
+      first : (v : ℕ) (l : List ℕ) → firstBlock (turnBy v l .due) ≡ ifZero v (r .next) 0
+      first zero [] = refl
+      first zero (a ∷ l) = refl
+      first (suc v) l = refl
+
+      second : (v : ℕ) (l : List ℕ) → secondBlock (turnBy v l .due) ≡ ifZero v (getD l 0 0) 0
+      second zero [] = refl
+      second zero (a ∷ l) = refl
+      second (suc v) l = refl
+
+      asked : (v : ℕ) (l : List ℕ) → served (turnBy v l .due) ≡ ifZero v (some? l) false
+      asked zero [] = refl
+      asked zero (a ∷ l) = refl
+      asked (suc v) l = refl
+
+      back : (v : ℕ) → turnBy v (asksOf (r .line)) .rota ≡ ifZero v (rotaOf (movedOn n (planOf r))) r
+      back zero = refl
+      back (suc v) = refl
+
+  -- one answer keeps the promise: the rota's own
+  pub one-turned : {answer other : RotaTurned} → RotaTurns n r answer → RotaTurns n r other → answer ≡ other
+  one-turned {answer} {other} p q =
+      let due = due-told (answer .due) (other .due) (p .numbered) (q .numbered) (p .number ∙ sym (q .number)) (p .asked ∙ sym (q .asked))
+      (p .first ∙ sym (q .first)) (p .second ∙ sym (q .second)) in
+      let rota = p .back ∙ sym (q .back) in
+      λ i. record { due = due i; rota = rota i }
+
+  pub turns : {answer : RotaTurned} → answer ≡ rotaTurned n r → RotaTurns n r answer
+  turns e = rw e turns-turned
+
+  pub turns-is : {answer : RotaTurned} → RotaTurns n r answer → answer ≡ rotaTurned n r
+  turns-is p = one-turned p turns-turned

@@ -6,6 +6,7 @@ pub mod Record
 pub mod Broken
 pub mod Reason
 pub mod Numbers
+pub mod Calls
 pub mod Steps
 pub mod Touches
 pub mod Memory

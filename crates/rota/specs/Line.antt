@@ -2,7 +2,7 @@
 -- 0 stands for no place. A line is sound for n where no more wait than it has places, every block that waits is below n, none waits
 -- twice, and the unused places hold 0. Assumes nothing.
 use Prim.Native.Nat.{ℕ, zero, suc, _-_}
-use mathlib.Core.Bool.{Bool, true, cond, _&&_}
+use mathlib.Core.Bool.{Bool, true, false, cond, _&&_}
 use mathlib.Core.Path.{_≡_}
 use mathlib.Core.List.{List, [], _∷_, _++_}
 use lib.ListN.{length, take, drop, replicate}
@@ -24,6 +24,11 @@ further (suc place) = suc (suc place)
 unfoldable pub place : ℕ → List ℕ → ℕ
 place block [] = zero
 place block (first ∷ rest) = cond (eqb first block) 1 (further (place block rest))
+
+-- does any block wait
+abbrev pub some? : List ℕ → Bool
+some? [] = false
+some? (first ∷ rest) = true
 
 -- every block that waits is below n
 unfoldable pub below : ℕ → List ℕ → Bool

@@ -4,7 +4,8 @@ mod line;
 ghost use mathlib.Core.Path.{_≡_};
 ghost use Prim.Native.Nat.{_<_};
 ghost use Rattle.rota.specs.Turning.{onward};
-ghost use Rattle.rota.specs.Record.{unbroken, fresh, rotaAsked, rotaTurned};
+ghost use Rattle.rota.specs.Record.{unbroken};
+ghost use Rattle.rota.specs.Calls.{IsFresh, RotaAsks, RotaTurns};
 pub use line::Line;
 pub use line::PLACES;
 
@@ -40,7 +41,7 @@ pub struct RotaTurned {
 impl Rota {
     // Block 0 is next, and nothing waits.
     pub fn fresh() -> Rota
-        ensures { λ r. ⌜ r ≡ fresh ⌝ }
+        ensures { λ r. ⌜ IsFresh r ⌝ }
     {
         Rota {
             next: 0,
@@ -50,7 +51,7 @@ impl Rota {
 
     // Puts a block on the line, for a patrol of `n` blocks.
     pub fn ask(self, n: u32, block: u32) -> RotaAsked
-        ensures { λ r. ⌜ r ≡ rotaAsked n self block ⌝ }
+        ensures { λ r. ⌜ RotaAsks n self block r ⌝ }
     {
         if self.unbroken(n) {
             if n <= block {
@@ -89,7 +90,7 @@ impl Rota {
 
     // The blocks whose turn it is, in a patrol of `n` blocks.
     pub fn turn(self, n: u32) -> RotaTurned
-        ensures { λ r. ⌜ r ≡ rotaTurned n self ⌝ }
+        ensures { λ r. ⌜ RotaTurns n self r ⌝ }
     {
         if self.unbroken(n) {
             let first = self.next;

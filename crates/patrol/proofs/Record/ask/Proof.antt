@@ -5,6 +5,8 @@ use borrow.Author.Needs.{needs}
 use Rattle.layout.specs.Refusal.{layoutRefusal}
 use Rattle.layout.proofs.Ladder.{geometry}
 use Rattle.patrol.proofs.Calls.{ask-refused, ask-answered}
+use Rattle.rota.proofs.Numbers.{asks-is}
+use Rattle.patrol.proofs.Promises.{asks}
 use Rattle.patrol.proofs.Record.ask.Statement.{statement}
 use Rattle.patrol.proofs.Record.ask.Tie as tie
 
@@ -16,7 +18,7 @@ check-requires : tie.Need-check-requires
 check-requires c κs = search needs
 
 returns : tie.Need-returns
-returns c = ask-refused _ _ _ (c .before .check .ensures) (c .if1 .taken)
+returns c = asks _ _ (ask-refused _ _ _ (c .before .check .ensures) (c .if1 .taken))
 
 blocks-requires : tie.Need-blocks-requires
 blocks-requires c κs = search needs
@@ -31,8 +33,9 @@ returns-2 : tie.Need-returns-2
 returns-2 c =
     let answer = c .before in
     let checked = answer .before .before .before in
-    ask-answered _ _ _ (checked .before .check .ensures) (checked .if1 .left) (answer .ask .result)
-    (rw (← answer .before .blocks2 .ensures) (answer .ask .ensures))
+    asks _ _
+    (ask-answered _ _ _ (checked .before .check .ensures) (checked .if1 .left) (answer .ask .result)
+    (rw (← answer .before .blocks2 .ensures) (asks-is _ _ _ (answer .ask .ensures))))
 
 pub ask-spec : {M : Type 1} → statement M
 ask-spec =

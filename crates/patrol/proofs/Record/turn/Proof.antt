@@ -7,6 +7,7 @@ use Rattle.layout.specs.Refusal.{imageRefusal}
 use Rattle.layout.proofs.Ladder.{geometry, image-layout}
 use Rattle.patrol.specs.Turn.{turnedNow}
 use Rattle.patrol.proofs.Calls.{turn-refused, turn-ready, turn-reported}
+use Rattle.rota.proofs.Numbers.{turns-is}
 use Rattle.patrol.proofs.Record.turn.Statement.{statement}
 use Rattle.patrol.proofs.Record.turn.Tie as tie
 
@@ -21,7 +22,7 @@ passed : (c : tie.Else1) → imageRefusal (length (start c .args .image .now)) (
 passed c = sym (c .before .check-image .ensures) ∙ c .if1 .left
 
 answered : (c : tie.After-turn) → c .turn .result ≡ turnedNow (start (checked c) .args .self)
-answered c = rw (← c .before .blocks2 .ensures) (c .turn .ensures)
+answered c = rw (← c .before .blocks2 .ensures) (turns-is _ _ (c .turn .ensures))
 
 check-image-requires : tie.Need-check-image-requires
 check-image-requires c κs = search needs

@@ -8,6 +8,7 @@ use Rattle.rota.specs.Line.{places, place, full, asksOf}
 use Rattle.rota.specs.Record.{unbroken}
 use Rattle.rota.proofs.Lines.{full-is}
 use Rattle.rota.proofs.Entries.{line-fit, line-tidy, ask-broken, ask-block-outside, ask-again, ask-full, ask-new}
+use Rattle.rota.proofs.Numbers.{asks}
 use Rattle.rota.proofs.Rota.ask.Statement.{statement}
 use Rattle.rota.proofs.Rota.ask.Tie as tie
 
@@ -35,7 +36,7 @@ unbroken-requires : tie.Need-unbroken-requires
 unbroken-requires c κs = search needs
 
 returns : tie.Need-returns
-returns c = ask-block-outside _ _ (long (c .before)) (ok (c .before)) _ (c .if2 .taken)
+returns c = asks _ _ _ (ask-block-outside _ _ (long (c .before)) (ok (c .before)) _ (c .if2 .taken))
 
 place-of-requires : tie.Need-place-of-requires
 place-of-requires c κs = line-fit _ _ (ok (c .before .before)) .few
@@ -43,7 +44,7 @@ place-of-requires c κs = line-fit _ _ (ok (c .before .before)) .few
 returns-2 : tie.Need-returns-2
 returns-2 c =
     let inside = c .before .before .before in
-    ask-again _ _ (long (inside .before)) (ok (inside .before)) _ (inside .if2 .left) _ (c .before .place-of .ensures) (c .if3 .taken)
+    asks _ _ _ (ask-again _ _ (long (inside .before)) (ok (inside .before)) _ (inside .if2 .left) _ (c .before .place-of .ensures) (c .if3 .taken))
 
 full-requires : tie.Need-full-requires
 full-requires c κs = search needs
@@ -52,7 +53,7 @@ returns-3 : tie.Need-returns-3
 returns-3 c =
     let at = c .before .before in
     let from = accepted at in
-    ask-full _ _ (long from) (ok from) _ (at .before .before .before .if2 .left) (new at) (sym (c .if4 .taken) ∙ c .before .full .ensures)
+    asks _ _ _ (ask-full _ _ (long from) (ok from) _ (at .before .before .before .if2 .left) (new at) (sym (c .if4 .taken) ∙ c .before .full .ensures))
 
 joined-requires : tie.Need-joined-requires
 joined-requires c κs =
@@ -64,10 +65,10 @@ returns-4 : tie.Need-returns-4
 returns-4 c =
     let at = c .before .before .before in
     let from = accepted at in
-    ask-new _ _ (long from) (ok from) _ (at .before .before .before .if2 .left) _ (new at) (roomy (c .before)) (c .joined .ensures)
+    asks _ _ _ (ask-new _ _ (long from) (ok from) _ (at .before .before .before .if2 .left) _ (new at) (roomy (c .before)) (c .joined .ensures))
 
 returns-5 : tie.Need-returns-5
-returns-5 c = ask-broken _ _ _ (sym (c .before .unbroken .ensures) ∙ c .if1 .left)
+returns-5 c = asks _ _ _ (ask-broken _ _ _ (sym (c .before .unbroken .ensures) ∙ c .if1 .left))
 
 pub ask-spec : {M : Type 1} → statement M
 ask-spec =

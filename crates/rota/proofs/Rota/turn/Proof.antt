@@ -7,6 +7,7 @@ use lib.ListN.{length}
 use Rattle.rota.specs.Line.{places}
 use Rattle.rota.specs.Record.{unbroken}
 use Rattle.rota.proofs.Entries.{next-inside, line-tidy, turn-broken, turn-one, turn-two}
+use Rattle.rota.proofs.Numbers.{turns}
 use Rattle.rota.proofs.Rota.turn.Statement.{statement}
 use Rattle.rota.proofs.Rota.turn.Tie as tie
 
@@ -33,7 +34,7 @@ onward-requires c κs = next-inside _ _ (ok (c .before))
 returns : tie.Need-returns
 returns c =
     let from = accepted (c .before) in
-    turn-one _ _ (long from) (ok from) _ _ (c .before .onward .ensures) (c .if2 .taken) refl
+    turns _ _ (turn-one _ _ (long from) (ok from) _ _ (c .before .onward .ensures) (c .if2 .taken) refl)
 
 element-copy-out-second : tie.Need-element-copy-out-second
 element-copy-out-second c = search needs
@@ -47,10 +48,10 @@ returns-2 : tie.Need-returns-2
 returns-2 c =
     let at = c .before .before .before in
     let from = accepted at in
-    turn-two _ _ (long from) (ok from) _ _ (at .onward .ensures) (omega (arith, c .before .before .if2 .left)) (c .moved-up .ensures)
+    turns _ _ (turn-two _ _ (long from) (ok from) _ _ (at .onward .ensures) (omega (arith, c .before .before .if2 .left)) (c .moved-up .ensures))
 
 returns-3 : tie.Need-returns-3
-returns-3 c = turn-broken _ _ (sym (c .before .unbroken .ensures) ∙ c .if1 .left)
+returns-3 c = turns _ _ (turn-broken _ _ (sym (c .before .unbroken .ensures) ∙ c .if1 .left))
 
 pub turn-spec : {M : Type 1} → statement M
 turn-spec =
