@@ -1,52 +1,78 @@
--- What each exported call answers, and every lent word that it leaves: those of the proved calls, as words. Assumes nothing.
+-- What each exported call answers, and every lent word that it leaves: those of the proved calls, in the specification's numbers as words.
+-- Assumes nothing.
 use Prim.Native.Nat.{ℕ}
-use mathlib.Core.List.{List}
+use mathlib.Core.List.{List, [], _∷_, _++_}
 use mathlib.Core.Path.{_≡_}
+use lib.ListN.{length}
+use Rattle.ground.specs.Choice.{ifZero}
+use Rattle.block.specs.Verdict.{unsaid, toSay, saidWords}
 use Rattle.layout.specs.declared.Layout.{Layout}
-use Rattle.store.specs.Answer.{answerNumber, answerWords}
+use Rattle.layout.specs.Layout.{shapeOf, blocks}
+use Rattle.layout.specs.Refusal.{imageRefusal, blockRefusal}
+use Rattle.store.specs.Image.{gathered}
+use Rattle.store.specs.Refusal.{dataRefusal}
 use Rattle.store.specs.Fresh.{freshAfter}
-use Rattle.store.specs.Write.{writeAnswer, writeAfter}
-use Rattle.store.specs.Read.{readAnswer, readBuffer}
-use Rattle.store.specs.Visit.{visitAnswer, visitAfter}
-use Rattle.rota.specs.Numbers.{placeNumber, placeWords}
-use Rattle.patrol.specs.Format.{formatted}
-use Rattle.patrol.specs.Ask.{asked}
-use Rattle.patrol.specs.Turn.{turned, turnAfter}
-use Rattle.patrol.specs.Numbers.{reportNumber, reportWords}
+use Rattle.store.specs.Write.{writeAfter}
+use Rattle.store.specs.Read.{readBuffer}
+use Rattle.store.specs.Visit.{visitAfter}
+use Rattle.rota.specs.Line.{asksOf}
+use Rattle.rota.specs.Asking.{askPlace, joined}
+use Rattle.rota.specs.Turning.{movedOn}
+use Rattle.rota.specs.Record.{planOf, rotaOf}
+use Rattle.patrol.specs.declared.Record.{Record}
+use Rattle.patrol.specs.Format.{freshRecord, noRecord}
+use Rattle.patrol.specs.Ask.{withRota, askRefused}
+use Rattle.patrol.specs.Turn.{seenIn, askSeen, askVisited, turnRefused}
+use Rattle.patrol.specs.Numbers.{unseen, seenWords}
 use Rattle.words.specs.Records.{recordOf, recordWords}
 
 -- write
 pub record WriteCall (image : List ℕ) (layout : Layout) (block : ℕ) (list : List ℕ) (number : ℕ) (after : List ℕ) : Type 0 where
-  pub answers : number ≡ answerNumber (writeAnswer image layout block list)
+  pub answers : number ≡ dataRefusal (length image) layout block (length list)
   pub leaves : after ≡ writeAfter image layout block list
 
--- read
+-- read: the buffer that was lent, and what it becomes
 pub record ReadCall (image : List ℕ) (layout : Layout) (block : ℕ) (buffer : List ℕ) (number : ℕ) (after verdict : List ℕ) : Type 0 where
-  pub answers : number ≡ answerNumber (readAnswer image layout block buffer)
+  pub answers : number ≡ dataRefusal (length image) layout block (length buffer)
   pub leaves : after ≡ readBuffer image layout block buffer
-  pub says : verdict ≡ answerWords (readAnswer image layout block buffer)
+  pub says : verdict ≡ saidWords (ifZero (dataRefusal (length image) layout block (length buffer)) (toSay (shapeOf layout) (gathered layout block image)) unsaid)
 
 -- visit
 pub record VisitCall (image : List ℕ) (layout : Layout) (block number : ℕ) (after verdict : List ℕ) : Type 0 where
-  pub answers : number ≡ answerNumber (visitAnswer image layout block)
+  pub answers : number ≡ blockRefusal (length image) layout block
   pub leaves : after ≡ visitAfter image layout block
-  pub says : verdict ≡ answerWords (visitAnswer image layout block)
+  pub says : verdict ≡ saidWords (ifZero (blockRefusal (length image) layout block) (toSay (shapeOf layout) (gathered layout block image)) unsaid)
 
 -- format
 pub record FormatCall (image : List ℕ) (layout : Layout) (number : ℕ) (after words : List ℕ) : Type 0 where
-  pub answers : number ≡ formatted image layout .number
+  pub answers : number ≡ imageRefusal (length image) layout
   pub leaves : after ≡ freshAfter image layout
-  pub back : words ≡ recordWords (formatted image layout .back)
+  pub back : words ≡ recordWords (ifZero (imageRefusal (length image) layout) (freshRecord layout) noRecord)
 
--- ask: the record that was lent, and what it becomes
+-- the record that an accepted ask makes of a record, and an accepted turn
+abbrev pub withAsk : Record → ℕ → Record
+withAsk r block = withRota r (rotaOf (joined (planOf (r .rota)) block))
+
+abbrev pub withTurn : Record → Record
+withTurn r = withRota r (rotaOf (movedOn (blocks (r .layout)) (planOf (r .rota))))
+
+-- ask: the record that was lent, and what it becomes; refused, it is the same
 pub record AskCall (lent : List ℕ) (block number : ℕ) (words place : List ℕ) : Type 0 where
-  pub answers : number ≡ placeNumber (asked (recordOf lent) block .place)
-  pub back : words ≡ recordWords (asked (recordOf lent) block .back)
-  pub says : place ≡ placeWords (asked (recordOf lent) block .place)
+  pub answers : number ≡ askRefused (recordOf lent) block
+  pub back : words ≡ recordWords (ifZero (askRefused (recordOf lent) block) (withAsk (recordOf lent) block) (recordOf lent))
+  pub says : place ≡ ifZero (askRefused (recordOf lent) block) (askPlace (planOf (recordOf lent .rota)) block) 0 ∷ []
 
--- turn
+-- turn: likewise; and the image
 pub record TurnCall (lent image : List ℕ) (number : ℕ) (words after report : List ℕ) : Type 0 where
-  pub answers : number ≡ reportNumber (turned (recordOf lent) image .report)
-  pub leaves : after ≡ turnAfter (recordOf lent) image
-  pub back : words ≡ recordWords (turned (recordOf lent) image .back)
-  pub says : report ≡ reportWords (turned (recordOf lent) image .report)
+  pub answers : number ≡ turnRefused (recordOf lent) (length image)
+  pub leaves : after
+      ≡ ifZero (turnRefused (recordOf lent) (length image))
+      (askVisited (recordOf lent .layout) image (recordOf lent .rota .next) (asksOf (recordOf lent .rota .line)))
+      image
+  pub back : words ≡ recordWords (ifZero (turnRefused (recordOf lent) (length image)) (withTurn (recordOf lent)) (recordOf lent))
+  pub says : report
+      ≡ seenWords (ifZero (turnRefused (recordOf lent) (length image)) (seenIn (recordOf lent .layout) image (recordOf lent .rota .next)) unseen)
+      ++ seenWords
+      (ifZero (turnRefused (recordOf lent) (length image))
+      (askSeen (recordOf lent .layout) image (recordOf lent .rota .next) (asksOf (recordOf lent .rota .line)))
+      unseen)

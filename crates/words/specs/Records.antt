@@ -1,5 +1,6 @@
 -- A record as words: shape, s, G, next, how many wait, and then the places of its line. Assumes nothing.
 use Prim.Native.Nat.{ℕ, _+_}
+use mathlib.Core.Path.{_≡_}
 use mathlib.Core.List.{List, [], _∷_, _++_}
 use lib.ListN.{getD, take, drop}
 use Rattle.layout.specs.Layout.{layoutOf}
@@ -27,3 +28,10 @@ frontWords r = r .layout .shape ∷ r .layout .s ∷ r .layout .g ∷ r .rota .n
 
 abbrev pub recordWords : Record → List ℕ
 recordWords r = frontWords r ++ r .rota .line .asks
+
+-- the promises of record_of and record_words
+abbrev pub HoldsRecord : List ℕ → Record → Type 0
+HoldsRecord words r = r ≡ recordOf words
+
+abbrev pub SpellsRecord : Record → List ℕ → Type 0
+SpellsRecord r words = words ≡ recordWords r

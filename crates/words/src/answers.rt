@@ -2,10 +2,8 @@
 ghost use mathlib.Core.Path.{_≡_};
 ghost use Prim.Native.Nat.{_+_, _≤_};
 ghost use Rattle.block.specs.Verdict.{verdictWords};
-ghost use Rattle.store.specs.Answer.{answerNumber, answerWords};
-ghost use Rattle.rota.specs.Numbers.{placeNumber, placeWords};
-ghost use Rattle.patrol.specs.Numbers.{reportNumber, reportWords};
 ghost use Rattle.words.specs.Answers.{visitWidth, reportWidth, withVisit};
+ghost use Rattle.words.specs.Answers.{NumbersAnswer, SpellsAnswer, NumbersPlace, SpellsPlace, NumbersReport, SpellsReport};
 use super::REPORT_WORDS;
 use super::VERDICT_WORDS;
 use super::VISIT_WORDS;
@@ -27,7 +25,7 @@ fn verdict_words(verdict: Verdict) -> [u32; VERDICT_WORDS]
 
 // The number of an answer: 0 where the call was accepted.
 pub fn answer_number(answer: Answer) -> u32
-    ensures { λ r. ⌜ r ≡ answerNumber answer ⌝ }
+    ensures { λ r. ⌜ NumbersAnswer answer r ⌝ }
 {
     match answer {
         Answer::Refused(number) => number,
@@ -38,7 +36,7 @@ pub fn answer_number(answer: Answer) -> u32
 
 // The words of its verdict, and zeros where it has none.
 pub fn answer_words(answer: Answer) -> [u32; VERDICT_WORDS]
-    ensures { λ r. ⌜ r ≡ answerWords answer ⌝ }
+    ensures { λ r. ⌜ SpellsAnswer answer r ⌝ }
 {
     match answer {
         Answer::Refused(_) => [0u32; VERDICT_WORDS],
@@ -49,7 +47,7 @@ pub fn answer_words(answer: Answer) -> [u32; VERDICT_WORDS]
 
 // The number of an ask's answer.
 pub fn place_number(place: Place) -> u32
-    ensures { λ r. ⌜ r ≡ placeNumber place ⌝ }
+    ensures { λ r. ⌜ NumbersPlace place r ⌝ }
 {
     match place {
         Place::Refused(number) => number,
@@ -59,7 +57,7 @@ pub fn place_number(place: Place) -> u32
 
 // The place that an ask got, and 0 where it got none.
 pub fn place_words(place: Place) -> [u32; 1]
-    ensures { λ r. ⌜ r ≡ placeWords place ⌝ }
+    ensures { λ r. ⌜ SpellsPlace place r ⌝ }
 {
     match place {
         Place::Refused(_) => [0],
@@ -69,7 +67,7 @@ pub fn place_words(place: Place) -> [u32; 1]
 
 // The number of a report.
 pub fn report_number(report: Report) -> u32
-    ensures { λ r. ⌜ r ≡ reportNumber report ⌝ }
+    ensures { λ r. ⌜ NumbersReport report r ⌝ }
 {
     match report {
         Report::Refused(number) => number,
@@ -101,7 +99,7 @@ fn with_visit(
 
 // The patrol's visit, then the ask's; zeros where there was none.
 pub fn report_words(report: Report) -> [u32; REPORT_WORDS]
-    ensures { λ r. ⌜ r ≡ reportWords report ⌝ }
+    ensures { λ r. ⌜ SpellsReport report r ⌝ }
 {
     let none = [0u32; REPORT_WORDS];
     match report {

@@ -1,6 +1,5 @@
 // The record as words, and back: shape, s, G, next, how many wait, and the places.
-ghost use mathlib.Core.Path.{_≡_};
-ghost use Rattle.words.specs.Records.{recordOf, recordWords};
+ghost use Rattle.words.specs.Records.{HoldsRecord, SpellsRecord};
 use super::FRONT_WORDS;
 use super::RECORD_WORDS;
 use layout::Layout;
@@ -11,7 +10,7 @@ use rota::Rota;
 
 // The record that these words hold.
 pub fn record_of(words: [u32; RECORD_WORDS]) -> Record
-    ensures { λ r. ⌜ r ≡ recordOf words ⌝ }
+    ensures { λ r. ⌜ HoldsRecord words r ⌝ }
 {
     let mut asks = [0u32; PLACES];
     let mut k = 0;
@@ -37,7 +36,7 @@ pub fn record_of(words: [u32; RECORD_WORDS]) -> Record
 
 // The words of this record.
 pub fn record_words(record: Record) -> [u32; RECORD_WORDS]
-    ensures { λ r. ⌜ r ≡ recordWords «record» ⌝ }
+    ensures { λ r. ⌜ SpellsRecord «record» r ⌝ }
 {
     let layout = record.layout;
     let rota = record.rota;

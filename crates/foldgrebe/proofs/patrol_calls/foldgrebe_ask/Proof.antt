@@ -1,9 +1,8 @@
 -- `foldgrebe_ask` meets its contract: what an ask of the record that was lent answers, and the record that it makes, as words. Assumes nothing.
-use mathlib.Core.Path.{_≡_, ap, _∙_}
-use Rattle.rota.specs.Numbers.{placeNumber, placeWords}
-use Rattle.patrol.specs.declared.Record.{Record}
-use Rattle.patrol.specs.declared.Asked.{Asked}
-use Rattle.patrol.specs.Ask.{asked}
+use Prim.Native.Nat.{ℕ}
+use mathlib.Core.Path.{ap, _∙_}
+use mathlib.Core.List.{[], _∷_}
+use Rattle.patrol.specs.Ask.{Asks}
 use Rattle.words.specs.Records.{recordOf, recordWords}
 use borrow.Author.Needs.{needs}
 use Rattle.foldgrebe.proofs.patrol_calls.foldgrebe_ask.Statement.{statement}
@@ -14,8 +13,8 @@ abbrev start : tie.After-ask → tie.Start
 start c = c .before .before .before
 
 -- what was answered: the ask of the record that the lent words hold
-answered : (c : tie.After-ask) → c .ask .result ≡ asked (recordOf (start c .args .«record» .now)) (start c .args .block)
-answered c = c .ask .ensures ∙ ap (λ (r : Record). asked r (start c .args .block)) (c .before .record-of .ensures)
+answered : (c : tie.After-ask) → Asks (recordOf (start c .args .«record» .now)) (start c .args .block) (c .ask .result)
+answered c = rw (← c .before .record-of .ensures) (c .ask .ensures)
 
 record-of-requires : tie.Need-record-of-requires
 record-of-requires c κs = search needs
@@ -38,9 +37,9 @@ returns c =
     let put = told .before in
     let got = answered (put .before) in
     record {
-      answers = c .place-number .ensures ∙ ap (λ (answer : Asked). placeNumber (answer .place)) got;
-      back = put .record-words .ensures ∙ ap (λ (answer : Asked). recordWords (answer .back)) got;
-      says = told .place-words .ensures ∙ ap (λ (answer : Asked). placeWords (answer .place)) got;
+      answers = c .place-number .ensures ∙ got .number;
+      back = put .record-words .ensures ∙ ap recordWords (got .back);
+      says = told .place-words .ensures ∙ ap (λ (place : ℕ). place ∷ []) (got .place);
     }
 
 pub foldgrebe-ask-spec : {M : Type 1} → statement M

@@ -1,6 +1,5 @@
 -- `foldgrebe_format` meets its contract: what the patrol's format answers, its record as words, and the image that it leaves. Assumes nothing.
 use mathlib.Core.Path.{ap, _∙_}
-use Rattle.patrol.specs.declared.Formatted.{Formatted}
 use Rattle.words.specs.Records.{recordWords}
 use borrow.Author.Needs.{needs}
 use Rattle.foldgrebe.proofs.patrol_calls.foldgrebe_format.Statement.{statement}
@@ -19,9 +18,9 @@ returns : tie.Need-returns
 returns c =
     let made = c .before .before .before .format .ensures in
     record {
-      answers = ap (λ (answer : Formatted). answer .number) (made .answers);
+      answers = made .number;
       leaves = made .leaves;
-      back = c .record-words .ensures ∙ ap (λ (answer : Formatted). recordWords (answer .back)) (made .answers);
+      back = c .record-words .ensures ∙ ap recordWords (made .back);
     }
 
 pub foldgrebe-format-spec : {M : Type 1} → statement M

@@ -1,9 +1,8 @@
 -- `foldgrebe_turn` meets its contract: what a turn of the record that was lent reports, the record that it makes, as words, and the image. Assumes nothing.
-use mathlib.Core.Path.{_≡_, ap, _∙_}
-use Rattle.patrol.specs.declared.Record.{Record}
-use Rattle.patrol.specs.declared.Turned.{Turned}
-use Rattle.patrol.specs.Turn.{turned, turnAfter}
-use Rattle.patrol.specs.Numbers.{reportNumber, reportWords}
+use mathlib.Core.Path.{_≡_, ap, ap₂, _∙_}
+use mathlib.Core.List.{_++_}
+use Rattle.patrol.specs.Turn.{Turns}
+use Rattle.patrol.specs.Numbers.{Seen, seenWords}
 use Rattle.words.specs.Records.{recordOf, recordWords}
 use borrow.Author.Needs.{needs}
 use Rattle.foldgrebe.proofs.patrol_calls.foldgrebe_turn.Statement.{statement}
@@ -21,8 +20,8 @@ held : (c : tie.After-turn) → c .before .before .record-of .result ≡ recordO
 held c = c .before .before .record-of .ensures
 
 -- what was answered: the turn of that record
-answered : (c : tie.After-turn) → c .turn .result ≡ turned (recordOf (start c .args .«record» .now)) (start c .args .image .now)
-answered c = c .turn .ensures .answers ∙ ap (λ (r : Record). turned r (start c .args .image .now)) (held c)
+answered : (c : tie.After-turn) → Turns (recordOf (start c .args .«record» .now)) (start c .args .image .now) (c .turn .result) (c .turn .last .1 .0)
+answered c = rw (← held c) (c .turn .ensures)
 
 record-of-requires : tie.Need-record-of-requires
 record-of-requires c κs = search needs
@@ -49,10 +48,10 @@ returns c =
     let did = turn put in
     let got = answered did in
     record {
-      answers = c .report-number .ensures ∙ ap (λ (answer : Turned). reportNumber (answer .report)) got;
-      leaves = did .turn .ensures .leaves ∙ ap (λ (r : Record). turnAfter r (start did .args .image .now)) (held did);
-      back = put .record-words .ensures ∙ ap (λ (answer : Turned). recordWords (answer .back)) got;
-      says = told .report-words .ensures ∙ ap (λ (answer : Turned). reportWords (answer .report)) got;
+      answers = c .report-number .ensures ∙ got .number;
+      leaves = got .leaves;
+      back = put .record-words .ensures ∙ ap recordWords (got .back);
+      says = told .report-words .ensures ∙ ap₂ (λ (first second : Seen). seenWords first ++ seenWords second) (got .first) (got .second);
     }
 
 pub foldgrebe-turn-spec : {M : Type 1} → statement M

@@ -1,6 +1,6 @@
 -- `foldgrebe_read` meets its contract: what the store's read answers, as words, and the buffer that it leaves. Assumes nothing.
 use mathlib.Core.Path.{ap, _∙_}
-use Rattle.store.specs.Answer.{answerNumber, answerWords}
+use Rattle.block.specs.Verdict.{saidWords}
 use borrow.Author.Needs.{needs}
 use Rattle.foldgrebe.proofs.store_calls.foldgrebe_read.Statement.{statement}
 use Rattle.foldgrebe.proofs.store_calls.foldgrebe_read.Tie as tie
@@ -21,9 +21,9 @@ returns : tie.Need-returns
 returns c =
     let gave = c .before .before .before .before .read .ensures in
     record {
-      answers = c .answer-number .ensures ∙ ap answerNumber (gave .answers);
+      answers = c .answer-number .ensures ∙ gave .answers .number;
       leaves = gave .leaves;
-      says = c .before .answer-words .ensures ∙ ap answerWords (gave .answers);
+      says = c .before .answer-words .ensures ∙ ap saidWords (gave .answers .says);
     }
 
 pub foldgrebe-read-spec : {M : Type 1} → statement M

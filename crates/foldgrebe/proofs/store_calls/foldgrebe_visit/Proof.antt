@@ -1,6 +1,6 @@
 -- `foldgrebe_visit` meets its contract: what the store's visit answers, as words, and the image that it leaves. Assumes nothing.
 use mathlib.Core.Path.{ap, _∙_}
-use Rattle.store.specs.Answer.{answerNumber, answerWords}
+use Rattle.block.specs.Verdict.{saidWords}
 use borrow.Author.Needs.{needs}
 use Rattle.foldgrebe.proofs.store_calls.foldgrebe_visit.Statement.{statement}
 use Rattle.foldgrebe.proofs.store_calls.foldgrebe_visit.Tie as tie
@@ -21,9 +21,9 @@ returns : tie.Need-returns
 returns c =
     let saw = c .before .before .before .before .visit .ensures in
     record {
-      answers = c .answer-number .ensures ∙ ap answerNumber (saw .answers);
+      answers = c .answer-number .ensures ∙ saw .answers .number;
       leaves = saw .leaves;
-      says = c .before .answer-words .ensures ∙ ap answerWords (saw .answers);
+      says = c .before .answer-words .ensures ∙ ap saidWords (saw .answers .says);
     }
 
 pub foldgrebe-visit-spec : {M : Type 1} → statement M

@@ -1,6 +1,5 @@
 -- `foldgrebe_write` meets its contract: what the store's write answers, as its number, and the image that it leaves. Assumes nothing.
-use mathlib.Core.Path.{ap, _∙_}
-use Rattle.store.specs.Answer.{answerNumber}
+use mathlib.Core.Path.{_∙_}
 use borrow.Author.Needs.{needs}
 use Rattle.foldgrebe.proofs.store_calls.foldgrebe_write.Statement.{statement}
 use Rattle.foldgrebe.proofs.store_calls.foldgrebe_write.Tie as tie
@@ -17,7 +16,7 @@ same-length c = search needs
 returns : tie.Need-returns
 returns c =
     let wrote = c .before .before .before .write .ensures in
-    record { answers = c .answer-number .ensures ∙ ap answerNumber (wrote .answers); leaves = wrote .leaves }
+    record { answers = c .answer-number .ensures ∙ wrote .answers .number; leaves = wrote .leaves }
 
 pub foldgrebe-write-spec : {M : Type 1} → statement M
 foldgrebe-write-spec =
