@@ -1,6 +1,6 @@
 -- Demand 1 holds of every call. Assumes nothing.
 use Prim.Native.Nat.{ℕ}
-use mathlib.Core.Path.{_≡_, refl, _∙_}
+use mathlib.Core.Path.{_≡_, refl, sym, subst, _∙_}
 use mathlib.Core.List.{List}
 use lib.Dec.{T}
 use lib.ListN.{length}
@@ -20,12 +20,14 @@ use Rattle.store.specs.Visit.{visitAnswer, visitAfter}
 use Rattle.store.proofs.Answers.{answered-number, answered-refused}
 use Rattle.store.proofs.Ladder.{data-first}
 use Rattle.patrol.specs.declared.Record.{Record}
+use Rattle.patrol.specs.declared.Report.{Report}
+use Rattle.patrol.specs.Numbers.{unseen, reportNumber, reportFirst, reportSecond}
 use Rattle.patrol.specs.Ask.{asked}
 use Rattle.patrol.specs.Turn.{turned}
 use Rattle.patrol.proofs.Numbers.{place-bare, report-bare}
 use Rattle.patrol.proofs.Unchanged.{format-unchanged, ask-unchanged, turn-unchanged}
 use Rattle.patrol.proofs.Reasons.{format-first, ask-first, turn-first}
-use Rattle.demands.specs.Demand1.{Refusing, FormatRefusing, AskRefusing, TurnRefusing, Demand1}
+use Rattle.demands.specs.Demand1.{Refusing, FormatRefusing, AskRefusing, Bare, TurnRefusing, Demand1}
 
 -- a call that answers the first of its rules, and leaves what was lent where it refuses
 module _ (rules : List Rule) (number : ℕ) (inner : Answer) (plain : answerNumber inner ≡ 0) (t : T (distinct? rules)) (first : FirstOf rules number) where
@@ -39,7 +41,7 @@ module _ (rules : List Rule) (number : ℕ) (inner : Answer) (plain : answerNumb
   refusing new lent =
       record {
         ruled = rw counted (ruled rules number t first);
-        bare = λ ne. rw (answered-refused number inner (refused ne)) refl;
+        bare = λ ne. rw (answered-refused number inner (refused ne)) (refl, refl);
         unchanged = λ ne. refused-kept number new lent (refused ne);
       }
 
@@ -66,9 +68,15 @@ pub ask-refuses : (r : Record) (block : ℕ) → AskRefusing r block
 ask-refuses r block =
     record { ruled = ruled _ _ tt (ask-first r block); bare = place-bare (asked r block .place); unchanged = ask-unchanged r block }
 
+turn-bare : (report : Report) → (reportNumber report ≡ 0 → ⊥) → Bare (reportFirst report) × Bare (reportSecond report)
+turn-bare report ne =
+    let none : Bare unseen = (refl, refl, refl) in
+    let bare = report-bare report ne in
+    (subst Bare (sym (bare .0)) none, subst Bare (sym (bare .1)) none)
+
 pub turn-refuses : (r : Record) (image : List ℕ) → TurnRefusing r image
 turn-refuses r image =
-    record { ruled = ruled _ _ tt (turn-first r image); bare = report-bare (turned r image .report); unchanged = turn-unchanged r image }
+    record { ruled = ruled _ _ tt (turn-first r image); bare = turn-bare (turned r image .report); unchanged = turn-unchanged r image }
 
 pub demand-1 : Demand1
 demand-1 =

@@ -1,83 +1,87 @@
 -- One result: two outcomes that satisfy the promise of a public function are equal, answer and every lent word.
--- One theorem for each public function, crate by crate. Assumes nothing.
-use Prim.Native.Nat.{ℕ, min}
+-- One theorem for each public function, crate by crate, of the name that the function's contract cites. Assumes nothing.
+use Prim.Native.Nat.{ℕ}
 use mathlib.Core.Bool.{Bool}
 use mathlib.Core.Path.{_≡_}
 use mathlib.Core.List.{List}
+use Rattle.ground.specs.Least.{IsLeast}
 use Rattle.ground.proofs.Same.{same}
 use Rattle.shape.specs.declared.Shape.{Shape}
+use Rattle.shape.specs.Shape.{CountsBefore, CountsRows, CountsWords}
 use Rattle.block.specs.declared.Verdict.{Verdict}
-use Rattle.shape.specs.Shape.{before, rows, words}
-use Rattle.block.specs.Block.{validBlock, mendedBlock, dataInto}
-use Rattle.block.specs.Verdict.{verdictOf, validFrom}
+use Rattle.block.specs.Block.{Encodes, CopiesData}
+use Rattle.block.specs.Verdict.{Decides, TellsValid}
+use Rattle.block.proofs.Verdicts.{said-told}
 use Rattle.layout.specs.declared.Layout.{Layout}
 use Rattle.layout.specs.declared.Site.{Site}
-use Rattle.layout.specs.Layout.{blocks}
-use Rattle.layout.specs.Refusal.{layoutRefusal, imageRefusal}
-use Rattle.layout.specs.Site.{siteOf}
+use Rattle.layout.specs.Layout.{CountsBlocks}
+use Rattle.layout.specs.Refusal.{Checks, ChecksImage}
+use Rattle.layout.specs.Site.{Locates}
+use Rattle.layout.proofs.Sites.{sites-told}
 use Rattle.store.specs.declared.Answer.{Answer}
 use Rattle.store.specs.Fresh.{Clears}
 use Rattle.store.specs.Write.{Writes}
 use Rattle.store.specs.Read.{Reads}
 use Rattle.store.specs.Visit.{Visits, VisitsAccepted}
+use Rattle.store.proofs.Answers.{answers-one}
 use Rattle.rota.specs.declared.Rota.{Rota}
 use Rattle.rota.specs.declared.RotaAsked.{RotaAsked}
 use Rattle.rota.specs.declared.RotaTurned.{RotaTurned}
-use Rattle.rota.specs.Record.{fresh, rotaAsked, rotaTurned}
+use Rattle.rota.specs.Calls.{IsFresh, RotaAsks, RotaTurns}
+use Rattle.rota.proofs.Numbers as rotaNumbers
 use Rattle.patrol.specs.declared.Record.{Record}
 use Rattle.patrol.specs.declared.Formatted.{Formatted}
 use Rattle.patrol.specs.declared.Asked.{Asked}
 use Rattle.patrol.specs.declared.Turned.{Turned}
 use Rattle.patrol.specs.Format.{Formats}
-use Rattle.patrol.specs.Ask.{asked}
+use Rattle.patrol.specs.Ask.{Asks}
 use Rattle.patrol.specs.Turn.{Turns}
+use Rattle.patrol.proofs.Promises.{one-asked, one-turned}
 
 -- ---- ground
 
-pub one-least : (m n : ℕ) {a b : ℕ} → a ≡ min m n → b ≡ min m n → a ≡ b
+pub one-least : (m n : ℕ) {a b : ℕ} → IsLeast m n a → IsLeast m n b → a ≡ b
 one-least m n p q = same p q
 
 -- ---- shape
 
-pub one-rows-before : (shape : Shape) {a b : ℕ} → a ≡ before shape → b ≡ before shape → a ≡ b
+pub one-rows-before : (shape : Shape) {a b : ℕ} → CountsBefore shape a → CountsBefore shape b → a ≡ b
 one-rows-before shape p q = same p q
 
-pub one-rows : (shape : Shape) {a b : ℕ} → a ≡ rows shape → b ≡ rows shape → a ≡ b
+pub one-rows : (shape : Shape) {a b : ℕ} → CountsRows shape a → CountsRows shape b → a ≡ b
 one-rows shape p q = same p q
 
-pub one-words : (shape : Shape) {a b : ℕ} → a ≡ words shape → b ≡ words shape → a ≡ b
+pub one-words : (shape : Shape) {a b : ℕ} → CountsWords shape a → CountsWords shape b → a ≡ b
 one-words shape p q = same p q
 
 -- ---- block
 
-pub one-encode : (shape : Shape) (list : List ℕ) {a b : List ℕ} → a ≡ validBlock shape list → b ≡ validBlock shape list → a ≡ b
+pub one-encode : (shape : Shape) (list : List ℕ) {a b : List ℕ} → Encodes shape list a → Encodes shape list b → a ≡ b
 one-encode shape list p q = same p q
 
-pub one-decide : (shape : Shape) (block : List ℕ) {v w : Verdict} {a b : List ℕ}
-    → (v ≡ verdictOf shape block) × (a ≡ mendedBlock shape block)
-    → (w ≡ verdictOf shape block) × (b ≡ mendedBlock shape block)
-    → (v ≡ w) × (a ≡ b)
-one-decide shape block p q = (same (p .0) (q .0), same (p .1) (q .1))
+pub one-decide : (shape : Shape) (block : List ℕ) {v w : Verdict} {a b : List ℕ} → Decides shape block v a → Decides shape block w b → (v ≡ w) × (a ≡ b)
+one-decide shape block {v} {w} p q = (said-told v w (same (p .says) (q .says)), same (p .leaves) (q .leaves))
 
-pub one-valid : (shape : Shape) (list : List ℕ) (at : ℕ) {a b : Bool} → a ≡ validFrom shape at list → b ≡ validFrom shape at list → a ≡ b
+pub one-valid : (shape : Shape) (list : List ℕ) (at : ℕ) {a b : Bool} → TellsValid shape list at a → TellsValid shape list at b → a ≡ b
 one-valid shape list at p q = same p q
 
-pub one-data-into : (shape : Shape) (block buffer : List ℕ) {a b : List ℕ} → a ≡ dataInto shape block buffer → b ≡ dataInto shape block buffer → a ≡ b
+pub one-data-into : (shape : Shape) (block buffer : List ℕ) {a b : List ℕ} → CopiesData shape block buffer a → CopiesData shape block buffer b → a ≡ b
 one-data-into shape block buffer p q = same p q
 
 -- ---- layout
 
-pub one-blocks : (layout : Layout) {a b : ℕ} → a ≡ blocks layout → b ≡ blocks layout → a ≡ b
+pub one-blocks : (layout : Layout) {a b : ℕ} → CountsBlocks layout a → CountsBlocks layout b → a ≡ b
 one-blocks layout p q = same p q
 
-pub one-check : (layout : Layout) {a b : ℕ} → a ≡ layoutRefusal layout → b ≡ layoutRefusal layout → a ≡ b
+pub one-check : (layout : Layout) {a b : ℕ} → Checks layout a → Checks layout b → a ≡ b
 one-check layout p q = same p q
 
-pub one-check-image : (layout : Layout) (len : ℕ) {a b : ℕ} → a ≡ imageRefusal len layout → b ≡ imageRefusal len layout → a ≡ b
+pub one-check-image : (layout : Layout) (len : ℕ) {a b : ℕ} → ChecksImage len layout a → ChecksImage len layout b → a ≡ b
 one-check-image layout len p q = same p q
 
-pub one-locate : (layout : Layout) (len block : ℕ) {a b : Site} → a ≡ siteOf len layout block → b ≡ siteOf len layout block → a ≡ b
-one-locate layout len block p q = same p q
+pub one-locate : (layout : Layout) (len block : ℕ) {a b : Site} → Locates len layout block a → Locates len layout block b → a ≡ b
+one-locate layout len block {a} {b} p q =
+    sites-told a b (p .numbered) (q .numbered) (same (p .number) (q .number)) (same (p .shape) (q .shape)) (same (p .first) (q .first))
 
 -- ---- store
 
@@ -87,40 +91,43 @@ one-fresh image layout p q = (same (p .answers) (q .answers), same (p .leaves) (
 
 pub one-write : (image : List ℕ) (layout : Layout) (block : ℕ) (list : List ℕ) {a b : Answer} {after after′ : List ℕ}
     → Writes image layout block list a after → Writes image layout block list b after′ → (a ≡ b) × (after ≡ after′)
-one-write image layout block list p q = (same (p .answers) (q .answers), same (p .leaves) (q .leaves))
+one-write image layout block list {a} {b} p q = (answers-one a b (p .answers) (q .answers), same (p .leaves) (q .leaves))
 
 pub one-read : (image : List ℕ) (layout : Layout) (block : ℕ) (buffer : List ℕ) {a b : Answer} {after after′ : List ℕ}
     → Reads image layout block buffer a after → Reads image layout block buffer b after′ → (a ≡ b) × (after ≡ after′)
-one-read image layout block buffer p q = (same (p .answers) (q .answers), same (p .leaves) (q .leaves))
+one-read image layout block buffer {a} {b} p q = (answers-one a b (p .answers) (q .answers), same (p .leaves) (q .leaves))
 
 pub one-visit : (image : List ℕ) (layout : Layout) (block : ℕ) {a b : Answer} {after after′ : List ℕ}
     → Visits image layout block a after → Visits image layout block b after′ → (a ≡ b) × (after ≡ after′)
-one-visit image layout block p q = (same (p .answers) (q .answers), same (p .leaves) (q .leaves))
+one-visit image layout block {a} {b} p q = (answers-one a b (p .answers) (q .answers), same (p .leaves) (q .leaves))
 
 pub one-visit-accepted : (image : List ℕ) (layout : Layout) (block : ℕ) {a b : Verdict} {after after′ : List ℕ}
     → VisitsAccepted image layout block a after → VisitsAccepted image layout block b after′ → (a ≡ b) × (after ≡ after′)
-one-visit-accepted image layout block p q = (same (p .says) (q .says), same (p .leaves) (q .leaves))
+one-visit-accepted image layout block {a} {b} p q = (said-told a b (same (p .says) (q .says)), same (p .leaves) (q .leaves))
 
 -- ---- rota
 
-pub one-rota-fresh : {a b : Rota} → a ≡ fresh → b ≡ fresh → a ≡ b
+pub one-rota-fresh : {a b : Rota} → IsFresh a → IsFresh b → a ≡ b
 one-rota-fresh p q = same p q
 
-pub one-rota-ask : (n : ℕ) (rota : Rota) (block : ℕ) {a b : RotaAsked} → a ≡ rotaAsked n rota block → b ≡ rotaAsked n rota block → a ≡ b
-one-rota-ask n rota block p q = same p q
+pub one-rota-ask : (n : ℕ) (rota : Rota) (block : ℕ) {a b : RotaAsked} → RotaAsks n rota block a → RotaAsks n rota block b → a ≡ b
+one-rota-ask n rota block p q = rotaNumbers.one-asked n rota block p q
 
-pub one-rota-turn : (n : ℕ) (rota : Rota) {a b : RotaTurned} → a ≡ rotaTurned n rota → b ≡ rotaTurned n rota → a ≡ b
-one-rota-turn n rota p q = same p q
+pub one-rota-turn : (n : ℕ) (rota : Rota) {a b : RotaTurned} → RotaTurns n rota a → RotaTurns n rota b → a ≡ b
+one-rota-turn n rota p q = rotaNumbers.one-turned n rota p q
 
 -- ---- patrol
 
 pub one-format : (image : List ℕ) (layout : Layout) {a b : Formatted} {after after′ : List ℕ}
     → Formats image layout a after → Formats image layout b after′ → (a ≡ b) × (after ≡ after′)
-one-format image layout p q = (same (p .answers) (q .answers), same (p .leaves) (q .leaves))
+one-format image layout p q =
+    let number = same (p .number) (q .number) in
+    let back = same (p .back) (q .back) in
+    (λ i. record { number = number i; back = back i }, same (p .leaves) (q .leaves))
 
-pub one-ask : (r : Record) (block : ℕ) {a b : Asked} → a ≡ asked r block → b ≡ asked r block → a ≡ b
-one-ask r block p q = same p q
+pub one-ask : (r : Record) (block : ℕ) {a b : Asked} → Asks r block a → Asks r block b → a ≡ b
+one-ask r block p q = one-asked r block p q
 
 pub one-turn : (r : Record) (image : List ℕ) {a b : Turned} {after after′ : List ℕ}
     → Turns r image a after → Turns r image b after′ → (a ≡ b) × (after ≡ after′)
-one-turn r image p q = (same (p .answers) (q .answers), same (p .leaves) (q .leaves))
+one-turn r image p q = one-turned r image p q

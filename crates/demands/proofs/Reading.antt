@@ -15,6 +15,7 @@ use Rattle.store.specs.Image.{gathered}
 use Rattle.store.specs.Read.{readAnswer, readBuffer, mendedData}
 use Rattle.store.specs.Refusal.{dataRefusal}
 use Rattle.store.proofs.Ladder.{data-accepted}
+use Rattle.store.proofs.Promises.{reads-answer}
 use Rattle.rota.specs.Patrol.{memoryRun, memoryAt}
 use Rattle.rota.specs.Steps.{other}
 use Rattle.rota.specs.Touches.{read as reads}
@@ -137,9 +138,10 @@ Right image layout before rest block buffer named =
 
 pub reads-right : (image : List ℕ) (layout : Layout) → ReadsRight image layout
 reads-right image layout steps one words spaced before rest named block buffer e answer left promise accepted =
-    let number = sym (ap answerNumber (promise .answers)) ∙ accepted in
+    let given = reads-answer _ _ _ _ promise in
+    let number = sym (ap answerNumber given) ∙ accepted in
     let same = one before rest (read named block buffer) e number in
     let passed = sym (read-number (store image layout before .image) named block buffer) ∙ number in
     let any = subst (λ (other : Layout). Right image layout before rest block buffer other) (sym same) (right image layout before rest block buffer) in
     let both = any (rw e at one) (rw e at words) (rw e at spaced) passed in
-    (λ lost. both .0 (sym (ap answerVerdict (promise .answers)) ∙ lost), promise .leaves ∙ both .1)
+    (λ lost. both .0 (sym (ap answerVerdict given) ∙ lost), promise .leaves ∙ both .1)

@@ -2,14 +2,13 @@
 -- Assumes nothing.
 use Prim.Native.Nat.{ℕ}
 use mathlib.Core.Path.{_≡_}
-use mathlib.Core.List.{List, _++_}
+use mathlib.Core.List.{List}
 use lib.ListN.{length}
 use Rattle.ground.specs.Rules.{Rule, Ruled}
-use Rattle.block.specs.Verdict.{noVerdict}
 use Rattle.layout.specs.declared.Layout.{Layout}
 use Rattle.layout.specs.Reason.{imageRules, blockRules}
 use Rattle.store.specs.declared.Answer.{Answer}
-use Rattle.store.specs.Answer.{answerNumber, answerWords}
+use Rattle.store.specs.Answer.{answerNumber, answerVerdict, answerCount}
 use Rattle.store.specs.Fresh.{freshAfter}
 use Rattle.store.specs.Reason.{dataRules}
 use Rattle.store.specs.Write.{writeAnswer, writeAfter}
@@ -20,13 +19,13 @@ use Rattle.patrol.specs.declared.Record.{Record}
 use Rattle.patrol.specs.Format.{noRecord, formatted}
 use Rattle.patrol.specs.Ask.{asked}
 use Rattle.patrol.specs.Turn.{turned, turnAfter}
-use Rattle.patrol.specs.Numbers.{reportNumber, noVisit, reportWords}
+use Rattle.patrol.specs.Numbers.{Seen, reportNumber, reportFirst, reportSecond}
 use Rattle.patrol.specs.Reason.{askRules, turnRules}
 
 -- a call on an image that goes by a list of rules, with what was lent to it and what is left there
 pub record Refusing (rules : List Rule) (answer : Answer) (lent left : List ℕ) : Type 1 where
   pub ruled : Ruled rules (answerNumber answer)
-  pub bare : (answerNumber answer ≡ 0 → ⊥) → answerWords answer ≡ noVerdict
+  pub bare : (answerNumber answer ≡ 0 → ⊥) → (answerVerdict answer ≡ 0) × (answerCount answer ≡ 0)
   pub unchanged : (answerNumber answer ≡ 0 → ⊥) → left ≡ lent
 
 -- the patrol's calls: a refused one hands back the record that it got, or, if it got none, one of zeros
@@ -39,9 +38,13 @@ pub record AskRefusing (r : Record) (block : ℕ) : Type 1 where
   pub bare : (placeNumber (asked r block .place) ≡ 0 → ⊥) → placeGiven (asked r block .place) ≡ 0
   pub unchanged : (placeNumber (asked r block .place) ≡ 0 → ⊥) → asked r block .back ≡ r
 
+-- a visit with block, verdict and count 0
+abbrev pub Bare : Seen → Type 0
+Bare seen = (seen .block ≡ 0) × (seen .said .verdict ≡ 0) × (seen .said .count ≡ 0)
+
 pub record TurnRefusing (r : Record) (image : List ℕ) : Type 1 where
   pub ruled : Ruled (turnRules r (length image)) (reportNumber (turned r image .report))
-  pub bare : (reportNumber (turned r image .report) ≡ 0 → ⊥) → reportWords (turned r image .report) ≡ noVisit ++ noVisit
+  pub bare : (reportNumber (turned r image .report) ≡ 0 → ⊥) → Bare (reportFirst (turned r image .report)) × Bare (reportSecond (turned r image .report))
   pub unchanged : (reportNumber (turned r image .report) ≡ 0 → ⊥) → (turned r image .back ≡ r) × (turnAfter r image ≡ image)
 
 -- the demand: of every call, whatever its arguments

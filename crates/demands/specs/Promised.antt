@@ -12,7 +12,7 @@ use Rattle.patrol.specs.declared.Formatted.{Formatted}
 use Rattle.patrol.specs.declared.Asked.{Asked}
 use Rattle.patrol.specs.declared.Turned.{Turned}
 use Rattle.patrol.specs.Format.{Formats}
-use Rattle.patrol.specs.Ask.{asked}
+use Rattle.patrol.specs.Ask.{Asks}
 use Rattle.patrol.specs.Turn.{Turns}
 use Rattle.demands.specs.Steps.{Step, write, read, visit, ask, turn, flip, State, flipped}
 
@@ -25,7 +25,7 @@ Allowed (read layout block buffer) old new =
 Allowed (visit layout block) old new =
     (answer : Answer) × Visits (old .image) layout block answer (new .image) × (new .patrol ≡ old .patrol)
 Allowed (ask block) old new =
-    (answer : Asked) × (answer ≡ asked (old .patrol) block) × (new .image ≡ old .image) × (new .patrol ≡ answer .back)
+    (answer : Asked) × Asks (old .patrol) block answer × (new .image ≡ old .image) × (new .patrol ≡ answer .back)
 Allowed turn old new = (answer : Turned) × Turns (old .patrol) (old .image) answer (new .image) × (new .patrol ≡ answer .back)
 Allowed (flip index bit) old new = (new .image ≡ flipped index bit (old .image)) × (new .patrol ≡ old .patrol)
 

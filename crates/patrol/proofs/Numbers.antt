@@ -1,7 +1,7 @@
 -- The specification's numbers tell the reports of a turn apart, and those of an ask and a turn are those of their refusals. Assumes nothing.
 use Prim.Native.Nat.{ℕ, zero, suc}
 use mathlib.Core.Path.{_≡_, refl, sym, ap, ap₂, _∙_}
-use mathlib.Core.List.{List, _++_}
+use mathlib.Core.List.{List}
 use native.Mathlib.Omega.{arith}
 use lib.ListN.{length}
 use Rattle.ground.specs.Ladder.{_then_}
@@ -22,7 +22,7 @@ use Rattle.patrol.specs.declared.Report.{Report}
 use Rattle.patrol.specs.declared.Report.the-variants.{Refused, One, Two}
 use Rattle.patrol.specs.Ask.{askedBy, asked}
 use Rattle.patrol.specs.Turn.{reported, turnedNow, turnedBy, turned}
-use Rattle.patrol.specs.Numbers.{Seen, seenOf, unseen, reportNumber, reportFirst, reportSecond, noVisit, reportWords}
+use Rattle.patrol.specs.Numbers.{Seen, seenOf, unseen, reportNumber, reportFirst, reportSecond}
 
 -- ---- the numbers tell the reports apart
 
@@ -53,8 +53,8 @@ reports-told (Two a v b u) (Two h x k y) p q e f g =
     λ i. Two (first i) (verdict i) (second i) (other i)
 
 -- a refusal has block, verdict, count and place 0
-pub report-bare : (a : Report) → (reportNumber a ≡ 0 → ⊥) → reportWords a ≡ noVisit ++ noVisit
-report-bare (Refused m) ne = refl
+pub report-bare : (a : Report) → (reportNumber a ≡ 0 → ⊥) → (reportFirst a ≡ unseen) × (reportSecond a ≡ unseen)
+report-bare (Refused m) ne = (refl, refl)
 report-bare (One f v) ne = absurd (ne refl)
 report-bare (Two f v g u) ne = absurd (ne refl)
 
