@@ -94,4 +94,5 @@ demand-2 =
       visit = λ image layout block fits a. visit-mends image layout block fits (sym (visit-number image layout block) ∙ a);
       write = λ image layout block list fits a. write-stores image layout block list fits (sym (write-number image layout block list) ∙ a);
       read = λ image layout block buffer fits a. read-mends image layout block fits buffer (sym (read-number image layout block buffer) ∙ a);
+      read-leaves = λ image layout block buffer answer kept left promise. promise .keeps;
     }

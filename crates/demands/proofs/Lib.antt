@@ -20,4 +20,6 @@ pub mod Spaced
 pub mod Written
 pub mod Reading
 pub mod Demand3
+pub mod Tests
 pub mod Needed
+pub mod Shown

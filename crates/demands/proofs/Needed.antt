@@ -1,8 +1,9 @@
 -- What goes wrong in a store of two blocks of 16 words, block 1 from word 16 on, where one hypothesis of demand 3 fails and the others hold.
--- Assumes nothing.
+-- Both are computed, the others by their tests. Assumes nothing.
 use Prim.Native.Nat.{ℕ, _^_}
 use mathlib.Core.Path.{_≡_, refl}
-use mathlib.Core.List.{List, [], _∷_}
+use mathlib.Core.List.{List, [], _∷_, _++_}
+use native.Mathlib.Omega.{arith}
 use lib.ListN.{getD, replicate}
 use Rattle.ground.specs.Totals.{total}
 use Rattle.ground.specs.Stores.{stores}
@@ -15,6 +16,7 @@ use Rattle.lane.specs.Rows.{power?, rowsWhere}
 use Rattle.block.specs.Words.{number}
 use Rattle.block.specs.Block.{dataBlock, validBlock, dataOf, lanesLost, mendedLanes, mendedBlock, bitsChanged}
 use Rattle.block.specs.Verdict.{verdictOf}
+use Rattle.block.proofs.ByWords.{fit?}
 use Rattle.layout.specs.declared.Layout.{Layout}
 use Rattle.layout.specs.Layout.{layoutOf, shapeNumbered}
 use Rattle.layout.specs.Refusal.{layoutRefusal, imageRefusal, blockRefusal}
@@ -23,15 +25,19 @@ use Rattle.store.specs.Fresh.{freshImage, freshAfter}
 use Rattle.store.specs.Image.{gathered, placed}
 use Rattle.store.specs.Read.{readAnswer, readBuffer, mendedData}
 use Rattle.store.specs.Refusal.{dataRefusal}
-use Rattle.store.specs.Visit.{visitAfter}
+use Rattle.store.specs.Visit.{visitAnswer, visitAfter}
 use Rattle.store.specs.Write.{writeAnswer, writeAfter}
-use Rattle.rota.specs.Line.{below, noneTwice, zeros, sound}
-use Rattle.rota.specs.Record.{unbroken, turnNumber, rotaTurned}
+use Rattle.rota.specs.declared.Place.the-variants.{Given}
+use Rattle.rota.specs.Line.{place, below, noneTwice, zeros, sound}
+use Rattle.rota.specs.Asking.{askRefusal}
+use Rattle.rota.specs.Record.{unbroken, askNumber, rotaAsked, turnNumber, rotaTurned}
+use Rattle.patrol.specs.Ask.{asked}
 use Rattle.patrol.specs.Format.{formatted}
 use Rattle.patrol.specs.Numbers.{reportNumber}
 use Rattle.patrol.specs.Turn.{turned, turnAfter}
-use Rattle.demands.specs.Steps.{Step, write, visit, turn, flip, State, fresh, flipped, after, report, lastWritten}
-use Rattle.demands.specs.Demand3.{store}
+use Rattle.demands.specs.Steps.{Step, format, write, read, visit, ask, turn, flip, State, fresh, flipped, after, report, turns, lastWritten}
+use Rattle.demands.specs.Demand3.{PatrolVisits, AskVisits, store}
+use Rattle.demands.proofs.Tests.{made, every?, Hypothesis, layouts, words, spacing, formats, every, others, Meets, meets}
 
 -- shape 1, interleave 1, two groups; and a layout of the same length, interleave 2, one group
 abbrev pub ours : Layout
@@ -40,68 +46,143 @@ ours = layoutOf 1 1 2
 abbrev pub other : Layout
 other = layoutOf 1 2 1
 
+-- the image that format is lent
+abbrev pub lent : List ℕ
+lent = replicate 32 0
+
 abbrev pub small : List Step → State
-small steps = store (replicate 32 0) ours steps
+small steps = store lent ours steps
+
+abbrev pub sevens : List ℕ
+sevens = replicate 11 7
 
 -- what a read of a block with the layout says, and the first word that it leaves in a buffer of sevens
 abbrev pub says : ℕ → List Step → ℕ
-says block steps = answerVerdict (readAnswer (small steps .image) ours block (replicate 11 7))
+says block steps = answerVerdict (readAnswer (small steps .image) ours block sevens)
 
 abbrev pub gives : ℕ → List Step → ℕ
-gives block steps = getD (readBuffer (small steps .image) ours block (replicate 11 7)) 0 0
+gives block steps = getD (readBuffer (small steps .image) ours block sevens) 0 0
+
+-- some of the hypotheses hold of a list of steps, and of the steps with that read after them
+abbrev pub Keeps : List Hypothesis → List Step → Type 0
+Keeps some steps = Meets lent ours some steps
+
+abbrev pub KeepsRead : List Hypothesis → ℕ → List Step → Type 0
+KeepsRead some block steps = Keeps some (steps ++ read ours block sevens ∷ [])
 
 -- the first word of the data last written
 abbrev pub wrote : ℕ → List Step → ℕ
-wrote block steps = getD (lastWritten block (replicate 11 0) steps (fresh (replicate 32 0) ours)) 0 0
+wrote block steps = getD (lastWritten block (replicate 11 0) steps (fresh lent ours)) 0 0
 
--- data whose first word is 1
+-- data whose first word is 1, and data of ones
 abbrev pub oneFirst : List ℕ
 oneFirst = 1 ∷ replicate 10 0
 
+abbrev pub allOnes : List ℕ
+allOnes = replicate 11 0xFFFFFFFF
+
+-- two flips in lane 3 of block 1, with one turn between them, and with two
+abbrev pub near : List Step
+near = flip 19 3 ∷ turn ∷ flip 24 3 ∷ []
+
+abbrev pub far : List Step
+far = flip 19 3 ∷ turn ∷ turn ∷ flip 24 3 ∷ []
+
+-- a write with the other layout
+abbrev pub strayWrite : List Step
+strayWrite = write other 0 allOnes ∷ []
+
+-- one flip in each block, with a visit between them
+abbrev pub visited : Layout → List Step
+visited layout = write ours 0 oneFirst ∷ flip 4 0 ∷ visit layout 0 ∷ flip 20 0 ∷ []
+
+-- a data word of 33 bits
+abbrev pub longWord : List Step
+longWord = write ours 1 (replicate 11 (2 ^ 32)) ∷ []
+
+-- a second format that is accepted
+abbrev pub again : List Step
+again = write ours 0 oneFirst ∷ format ours ∷ []
+
 pub record Needed : Type 0 where
   -- two flips in lane 3 of block 1: one turn between is too few, and two are enough
-  pub too-few : says 1 (flip 19 3 ∷ turn ∷ flip 24 3 ∷ []) ≡ 3
-  pub enough : says 1 (flip 19 3 ∷ turn ∷ turn ∷ flip 24 3 ∷ []) ≡ 2
+  pub too-few : says 1 near ≡ 3
+  pub too-few-else : KeepsRead (others spacing) 1 near
+  pub enough : says 1 far ≡ 2
+  pub enough-meets : KeepsRead every 1 far
   -- a write with the other layout is accepted and changes both blocks: block 1, to which nothing was written, reads as clean
-  pub other-write : says 1 (write other 0 (replicate 11 0xFFFFFFFF) ∷ []) ≡ 1
-  pub other-write-gives : gives 1 (write other 0 (replicate 11 0xFFFFFFFF) ∷ []) ≡ 0xFFFFFFFF
-  pub other-write-wrote : wrote 1 (write other 0 (replicate 11 0xFFFFFFFF) ∷ []) ≡ 0
+  pub other-write : says 1 strayWrite ≡ 1
+  pub other-write-gives : gives 1 strayWrite ≡ 0xFFFFFFFF
+  pub other-write-wrote : wrote 1 strayWrite ≡ 0
+  pub other-write-else : KeepsRead (others layouts) 1 strayWrite
   -- a visit with that layout, after one flip in block 0, damages block 1, and one flip there is then too much
   pub other-visit-changes : getD (small (write ours 0 oneFirst ∷ flip 4 0 ∷ visit other 0 ∷ []) .image) 30 0 ≡ 1
-  pub other-visit : says 1 (write ours 0 oneFirst ∷ flip 4 0 ∷ visit other 0 ∷ flip 20 0 ∷ []) ≡ 3
-  pub same-visit : says 1 (write ours 0 oneFirst ∷ flip 4 0 ∷ visit ours 0 ∷ flip 20 0 ∷ []) ≡ 2
+  pub other-visit : says 1 (visited other) ≡ 3
+  pub other-visit-else : KeepsRead (others layouts) 1 (visited other)
+  pub same-visit : says 1 (visited ours) ≡ 2
+  pub same-visit-meets : KeepsRead every 1 (visited ours)
   -- a read with that layout is accepted and says lost, with no flip at all
-  pub other-read : answerNumber (readAnswer (small (write ours 0 (replicate 11 0xFFFFFFFF) ∷ []) .image) other 1 (replicate 11 7)) ≡ 0
-  pub other-read-says : answerVerdict (readAnswer (small (write ours 0 (replicate 11 0xFFFFFFFF) ∷ []) .image) other 1 (replicate 11 7)) ≡ 3
+  pub other-read : answerNumber (readAnswer (small (write ours 0 allOnes ∷ []) .image) other 1 sevens) ≡ 0
+  pub other-read-says : answerVerdict (readAnswer (small (write ours 0 allOnes ∷ []) .image) other 1 sevens) ≡ 3
+  pub other-read-else : Keeps (others layouts) (write ours 0 allOnes ∷ read other 1 sevens ∷ [])
   -- a data word of 33 bits is cut
-  pub cut-gives : gives 1 (write ours 1 (replicate 11 (2 ^ 32)) ∷ []) ≡ 0
-  pub cut-wrote : wrote 1 (write ours 1 (replicate 11 (2 ^ 32)) ∷ []) ≡ 2 ^ 32
+  pub cut-gives : gives 1 longWord ≡ 0
+  pub cut-wrote : wrote 1 longWord ≡ 2 ^ 32
+  pub cut-else : KeepsRead (others words) 1 longWord
+  -- after a second format that is accepted, what was written before reads as zeros
+  pub again-gives : gives 0 again ≡ 0
+  pub again-wrote : wrote 0 again ≡ 1
+  pub again-else : KeepsRead (others formats) 0 again
+  -- an ask that was given place 1 loses it
+  pub again-given : asked (small [] .patrol) 1 .place ≡ Given 1
+  pub again-unserved : AskVisits 1 (report (small (ask 1 ∷ format ours ∷ []))) → ⊥
+  -- and of two turns running with such a format between them neither visits block 1
+  pub again-first : PatrolVisits 1 (report (small [])) → ⊥
+  pub again-second : PatrolVisits 1 (report (small (turn ∷ format ours ∷ []))) → ⊥
   -- a refused read leaves the buffer as it was
   pub refused-gives : gives 2 [] ≡ 7
   pub refused-wrote : wrote 2 [] ≡ 0
+  pub refused-meets : KeepsRead every 2 []
   -- where the format was refused, so is the turn
   pub unformatted : reportNumber (report (store [] ours [])) ≡ 1
 
 pub needed : Needed
-unfolding after flipped lastWritten formatted freshAfter freshImage turned turnAfter rotaTurned turnNumber unbroken sound zeros below noneTwice
-    layoutRefusal imageRefusal blockRefusal dataRefusal shapeNumbered writeAnswer writeAfter readAnswer readBuffer mendedData visitAfter gathered placed
+unfolding after flipped turns lastWritten formatted freshAfter freshImage turned turnAfter rotaTurned turnNumber unbroken sound zeros below noneTwice
+    asked rotaAsked askNumber askRefusal place
+    layoutRefusal imageRefusal blockRefusal dataRefusal shapeNumbered writeAnswer writeAfter readAnswer readBuffer mendedData visitAnswer visitAfter
+    gathered placed
     dataBlock validBlock dataOf lanesLost mendedLanes mendedBlock bitsChanged verdictOf stores number listOf total
-    bit sum count decision named power? rowsWhere
+    bit sum count decision named power? rowsWhere made every? fit?
 needed =
     record {
       too-few = refl;
+      too-few-else = meets refl;
       enough = refl;
+      enough-meets = meets refl;
       other-write = refl;
       other-write-gives = refl;
       other-write-wrote = refl;
+      other-write-else = meets refl;
       other-visit-changes = refl;
       other-visit = refl;
+      other-visit-else = meets refl;
       same-visit = refl;
+      same-visit-meets = meets refl;
       other-read = refl;
       other-read-says = refl;
+      other-read-else = meets refl;
       cut-gives = refl;
       cut-wrote = refl;
+      cut-else = meets refl;
+      again-gives = refl;
+      again-wrote = refl;
+      again-else = meets refl;
+      again-given = refl;
+      again-unserved = λ served. served;
+      again-first = λ visits. omega arith;
+      again-second = λ visits. omega arith;
       refused-gives = refl;
       refused-wrote = refl;
+      refused-meets = meets refl;
       unformatted = refl;
     }

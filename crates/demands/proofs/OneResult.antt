@@ -93,9 +93,10 @@ pub one-write : (image : List ℕ) (layout : Layout) (block : ℕ) (list : List 
     → Writes image layout block list a after → Writes image layout block list b after′ → (a ≡ b) × (after ≡ after′)
 one-write image layout block list {a} {b} p q = (answers-one a b (p .answers) (q .answers), same (p .leaves) (q .leaves))
 
-pub one-read : (image : List ℕ) (layout : Layout) (block : ℕ) (buffer : List ℕ) {a b : Answer} {after after′ : List ℕ}
-    → Reads image layout block buffer a after → Reads image layout block buffer b after′ → (a ≡ b) × (after ≡ after′)
-one-read image layout block buffer {a} {b} p q = (answers-one a b (p .answers) (q .answers), same (p .leaves) (q .leaves))
+pub one-read : (image : List ℕ) (layout : Layout) (block : ℕ) (buffer : List ℕ) {a b : Answer} {kept kept′ after after′ : List ℕ}
+    → Reads image layout block buffer a kept after → Reads image layout block buffer b kept′ after′ → (a ≡ b) × (kept ≡ kept′) × (after ≡ after′)
+one-read image layout block buffer {a} {b} p q =
+    (answers-one a b (p .answers) (q .answers), same (p .keeps) (q .keeps), same (p .leaves) (q .leaves))
 
 pub one-visit : (image : List ℕ) (layout : Layout) (block : ℕ) {a b : Answer} {after after′ : List ℕ}
     → Visits image layout block a after → Visits image layout block b after′ → (a ≡ b) × (after ≡ after′)

@@ -1,7 +1,7 @@
 -- Demand 3, a and b: the turns and the asks of the store are those of its rota. Assumes nothing.
 use Prim.Native.Nat.{ℕ, _+_, _≤_, _<_}
 use mathlib.Core.Path.{_≡_, refl, sym, ap, ap₂, _∙_}
-use mathlib.Core.List.{List, [], _∷_, _++_, append-nil}
+use mathlib.Core.List.{List, [], _∷_, _++_, append-assoc, append-nil}
 use native.Mathlib.Nat.{one-le-mul}
 use lib.ListN.{length}
 use Rattle.layout.specs.declared.Layout.{Layout}
@@ -25,8 +25,8 @@ use Rattle.patrol.specs.Format.{formatted}
 use Rattle.patrol.specs.Numbers.{reportNumber}
 use Rattle.patrol.specs.Turn.{reported, turnedNow, turned}
 use Rattle.demands.specs.Steps.{Step, ask, turn, fresh, after, stepAfter, report, turns}
-use Rattle.demands.specs.Demand3.{PatrolVisits, AskVisits, store, TurnsAccepted, EveryBlockVisited, AskServed}
-use Rattle.demands.proofs.Lasting.{fresh-size}
+use Rattle.demands.specs.Demand3.{PatrolVisits, AskVisits, store, NotFormatted, TurnsAccepted, EveryBlockVisited, AskServed}
+use Rattle.demands.proofs.Lasting.{fresh-size, front-none}
 use Rattle.demands.proofs.Refused.{given-formatted}
 use Rattle.demands.proofs.Parts.{Part, allParts, parts-append, parts-turns, part-of, turn-step}
 use Rattle.demands.proofs.Simulated.{OfStore, run-stays, run-rota}
@@ -78,24 +78,25 @@ module _ (image : List ℕ) (layout : Layout) (fits : imageRefusal (length image
 
   -- ---- the record after some steps
 
-  stays : (steps : List Step) → OfStore (length image) layout fits (store image layout steps)
-  stays steps = run-stays (length image) layout fits steps (fresh image layout) fresh-stays
+  stays : (steps : List Step) → NotFormatted image layout steps → OfStore (length image) layout fits (store image layout steps)
+  stays steps none = run-stays (length image) layout fits steps (fresh image layout) none fresh-stays
 
-  rota-after : (steps : List Step) → store image layout steps .patrol .rota ≡ rotaAfter image layout steps
-  rota-after steps =
-      run-rota (length image) layout fits steps (fresh image layout) fresh-stays ∙ ap (rotaRun (blocks layout) (partsOf image layout steps)) fresh-rota
+  rota-after : (steps : List Step) → NotFormatted image layout steps → store image layout steps .patrol .rota ≡ rotaAfter image layout steps
+  rota-after steps none =
+      run-rota (length image) layout fits steps (fresh image layout) none fresh-stays ∙ ap (rotaRun (blocks layout) (partsOf image layout steps)) fresh-rota
 
   -- what a turn reports, and an ask answers, after them
-  report-after : (steps : List Step) → report (store image layout steps) ≡ reported layout (store image layout steps .image) (dueAfter image layout steps)
-  report-after steps =
+  report-after : (steps : List Step) → NotFormatted image layout steps
+      → report (store image layout steps) ≡ reported layout (store image layout steps .image) (dueAfter image layout steps)
+  report-after steps none =
       let state = store image layout steps in
-      turn-reports (state .patrol) (state .image) (rw (stays steps .names, stays steps .size) fits)
-      ∙ ap₂ (λ (l : Layout) (rota : Rota). reported l (state .image) (rotaTurned (blocks l) rota .due)) (stays steps .names) (rota-after steps)
+      turn-reports (state .patrol) (state .image) (rw (stays steps none .names, stays steps none .size) fits)
+      ∙ ap₂ (λ (l : Layout) (rota : Rota). reported l (state .image) (rotaTurned (blocks l) rota .due)) (stays steps none .names) (rota-after steps none)
 
-  place-after : (steps : List Step) (block : ℕ)
+  place-after : (steps : List Step) → NotFormatted image layout steps → (block : ℕ)
       → asked (store image layout steps .patrol) block .place ≡ rotaAsked (blocks layout) (rotaAfter image layout steps) block .place
   unfolding asked
-  place-after steps block = rw (stays steps .names, image-layout layout (length image) fits, rota-after steps)
+  place-after steps none block = rw (stays steps none .names, image-layout layout (length image) fits, rota-after steps none)
 
   pub some-blocks : 1 ≤ blocks layout
   some-blocks = let g = geometry layout (image-layout layout (length image) fits) in one-le-mul (g .g-first) (g .s-first)
@@ -105,44 +106,49 @@ module _ (image : List ℕ) (layout : Layout) (fits : imageRefusal (length image
 
   -- ---- a
 
-  accepted : (steps : List Step) → reportNumber (report (store image layout steps)) ≡ 0
-  accepted steps =
+  accepted : (steps : List Step) → NotFormatted image layout steps → reportNumber (report (store image layout steps)) ≡ 0
+  accepted steps none =
       let plan = planAfter image layout steps in
-      rw (report-after steps, due-after steps) (due-report _ _ (plan .next) (plan .asks))
+      rw (report-after steps none, due-after steps) (due-report _ _ (plan .next) (plan .asks))
 
-  names : (steps : List Step) (block : ℕ) → firstBlock (dueAfter image layout steps) ≡ block → PatrolVisits block (report (store image layout steps))
-  names steps block e =
+  names : (steps : List Step) → NotFormatted image layout steps → (block : ℕ) → firstBlock (dueAfter image layout steps) ≡ block
+      → PatrolVisits block (report (store image layout steps))
+  names steps none block e =
       let plan = planAfter image layout steps in
-      rw (report-after steps, due-after steps) (due-names _ _ (plan .next) (plan .asks) block (rw (due-after steps) at e))
+      rw (report-after steps none, due-after steps) (due-names _ _ (plan .next) (plan .asks) block (rw (due-after steps) at e))
 
-  visited : (before during : List Step) → blocks layout ≤ turns during → (block : ℕ) → block < blocks layout
+  visited : (before during : List Step) → NotFormatted image layout (before ++ during) → blocks layout ≤ turns during → (block : ℕ) → block < blocks layout
       → (first rest : List Step) × (during ≡ first ++ turn ∷ rest) × PatrolVisits block (report (store image layout (before ++ first)))
-  visited before during h block inside =
+  visited before during none h block inside =
       let state = store image layout before in
       let long : blocks layout ≤ rotaTurns (allParts during state) = rw (parts-turns during state) h in
       let found = round-complete (blocks layout) some-blocks (partsOf image layout before) (allParts during state) long block inside in
       let at = part-of during state (found .0) rotaTurn (found .1) (found .2) in
       let is = turn-step (at .step) (after (at .front) state) (at .early) (at .late) (at .is-part) in
       let passed : found .0 ≡ allParts (at .front) state =
-      at .front-is ∙ ap (λ (l : List Part). allParts (at .front) state ++ l) (is .1) ∙ append-nil (allParts (at .front) state) in (
+      at .front-is ∙ ap (λ (l : List Part). allParts (at .front) state ++ l) (is .1) ∙ append-nil (allParts (at .front) state) in
+      let refused : NotFormatted image layout (before ++ at .front) =
+      front-none (fresh image layout) (before ++ at .front) (at .step ∷ at .tail) (rw (append-assoc, ← at .split) none) in (
         at .front,
         at .tail,
         at .split ∙ ap (λ (step : Step). at .front ++ step ∷ at .tail) (is .0),
-        names (before ++ at .front) block (rw (parts-append before (at .front) (fresh image layout), ← passed) (found .3)),
+        names (before ++ at .front) refused block (rw (parts-append before (at .front) (fresh image layout), ← passed) (found .3)),
       )
 
   -- ---- b
 
-  served : (before between : List Step) (block place : ℕ) → asked (store image layout before .patrol) block .place ≡ Given place
+  served : (before between : List Step) (block place : ℕ) → NotFormatted image layout (before ++ ask block ∷ between)
+      → NotFormatted image layout before
+      → asked (store image layout before .patrol) block .place ≡ Given place
       → turns between + 1 ≡ place
       → AskVisits block (report (store image layout (before ++ ask block ∷ between)))
   unfolding allParts
-  served before between block place e t =
+  served before between block place all none e t =
       let later = stepAfter (ask block) (store image layout before) in
-      let given : rotaAsked (blocks layout) (rotaAfter image layout before) block .place ≡ Given place = sym (place-after before block) ∙ e in
+      let given : rotaAsked (blocks layout) (rotaAfter image layout before) block .place ≡ Given place = sym (place-after before none block) ∙ e in
       let turn-k : rotaTurns (allParts between later) + 1 ≡ place = rw (parts-turns between later) t in
       let two = ask-served (blocks layout) some-blocks (partsOf image layout before) block place given (allParts between later) turn-k in
-      rw (report-after (before ++ ask block ∷ between), parts-append before (ask block ∷ between) (fresh image layout), two) refl
+      rw (report-after (before ++ ask block ∷ between) all, parts-append before (ask block ∷ between) (fresh image layout), two) refl
 
 pub turns-accepted : (image : List ℕ) (layout : Layout) → TurnsAccepted image layout
 turns-accepted = accepted
@@ -151,5 +157,6 @@ pub every-block-visited : (image : List ℕ) (layout : Layout) → EveryBlockVis
 every-block-visited = visited
 
 pub asks-served : (image : List ℕ) (layout : Layout) → AskServed image layout
-asks-served image layout before between block place e t =
-    served image layout (given-formatted image layout before block place e) before between block place e t
+asks-served image layout before between block place all e t =
+    let none = front-none (fresh image layout) before (ask block ∷ between) all in
+    served image layout (given-formatted image layout before none block place e) before between block place all none e t

@@ -1,5 +1,5 @@
--- A step of the store is a list of steps of its rota and its memory: its parts. A call that is refused has none. The parts of a list of
--- steps have as many turns as the list and write the same data, and each of them is a part of one step. Assumes nothing.
+-- A step of the store is a list of steps of its rota and its memory: its parts. A call that is refused has none, nor has a format. The parts of a
+-- list of steps have as many turns as the list and write the same data, and each of them is a part of one step. Assumes nothing.
 use Prim.Native.Nat.{ℕ, zero, suc, _+_}
 use mathlib.Core.Path.{_≡_, refl, sym, ap, _∙_}
 use mathlib.Core.List.{List, [], _∷_, _++_, map, append-assoc, append-nil}
@@ -9,7 +9,7 @@ use Rattle.ground.specs.Choice.{ifZero}
 use Rattle.rota.specs.Steps.{Step as RotaStep, ask as asks, turn as rotaTurn, other, turns as rotaTurns}
 use Rattle.rota.specs.Touches.{Touch, write as writes, read as reads, visit as visits, flip as flips, nothing, lastWritten as rotaWritten}
 use Rattle.rota.proofs.Runs.{turns-append}
-use Rattle.demands.specs.Steps.{Step, write, read, visit, ask, turn, flip, State, stepAfter, after, answers, tick, turns, meant, lastWritten}
+use Rattle.demands.specs.Steps.{Step, format, write, read, visit, ask, turn, flip, State, stepAfter, after, answers, tick, turns, meant, lastWritten}
 use Rattle.demands.proofs.Appended.{written-append}
 use Rattle.demands.proofs.Splits.{split-append, split-none, split-one}
 
@@ -25,6 +25,7 @@ abbrev pub calls : ℕ → List MemoryTouch → List Part
 calls number touches = ifZero number (map other touches) []
 
 abbrev pub parts : Step → State → List Part
+parts (format layout) state = []
 parts (write layout block list) state = calls (answers (write layout block list) state) (writes block list ∷ [])
 parts (read layout block buffer) state = calls (answers (read layout block buffer) state) (reads block ∷ [])
 parts (visit layout block) state = calls (answers (visit layout block) state) (visits block ∷ [])
@@ -59,6 +60,7 @@ call-turns (suc number) touches = refl
 
 step-turns : (step : Step) (state : State) (count : ℕ) → rotaTurns (parts step state) + count ≡ tick step count
 unfolding rotaTurns
+step-turns (format layout) state count = omega arith
 step-turns (write layout block list) state count = rw (call-turns (answers (write layout block list) state) (writes block list ∷ [])) (omega arith)
 step-turns (read layout block buffer) state count = rw (call-turns (answers (read layout block buffer) state) (reads block ∷ [])) (omega arith)
 step-turns (visit layout block) state count = rw (call-turns (answers (visit layout block) state) (visits block ∷ [])) (omega arith)
@@ -92,6 +94,7 @@ module _ (block : ℕ) where
 
   step-written : (step : Step) (old : List ℕ) (state : State) → rotaWritten block old (parts step state) ≡ meant block old step state
   unfolding rotaWritten
+  step-written (format layout) old state = refl
   step-written (write layout to list) old state = call-written (answers (write layout to list) state) (writes to list ∷ []) old
   step-written (read layout from buffer) old state = call-unwritten (answers (read layout from buffer) state) (reads from ∷ []) old refl
   step-written (visit layout at) old state = call-unwritten (answers (visit layout at) state) (visits at ∷ []) old refl
@@ -171,6 +174,7 @@ turn-step step state early late e = by step (step-turns step state 0) e
     none turned z e = absurd (omega (arith, some-turns early late))
 
     by : (step : Step) → rotaTurns (parts step state) + 0 ≡ tick step 0 → parts step state ≡ early ++ rotaTurn ∷ late → (step ≡ turn) × (early ≡ [])
+    by (format layout) z e = none _ z (ap rotaTurns e)
     by (write layout block list) z e = none _ z (ap rotaTurns e)
     by (read layout block buffer) z e = none _ z (ap rotaTurns e)
     by (visit layout block) z e = none _ z (ap rotaTurns e)
@@ -220,6 +224,7 @@ module _ (part : Part) (step : Step) (makes : madeBy part ≡ step ∷ []) where
       (split-one also [] step [] (sym e ∙ ap madeBy (p .0) ∙ makes) .0, p .1, p .2)
 
   alone : (also : Step) (state : State) (early late : List Part) → parts also state ≡ early ++ part ∷ late → Only also early late
+  alone (format layout) state early late e = absurd (split-none early part late e)
   alone (write layout block list) state early late e =
       not-quiet (call-quiet (answers (write layout block list) state) (writes block list ∷ []) (refl, tt) early part late e)
   alone (read layout block buffer) state early late e =

@@ -21,11 +21,11 @@ use Rattle.rota.specs.Steps.{other}
 use Rattle.rota.specs.Touches.{read as reads}
 use Rattle.rota.proofs.Patrol.{read-right}
 use Rattle.demands.specs.Steps.{Step, write, read, fresh, lastWritten}
-use Rattle.demands.specs.Demand3.{WordsWritten, store, OneLayout, FlipsSpaced, ReadsRight}
+use Rattle.demands.specs.Demand3.{WordsWritten, store, NotFormatted, OneLayout, FlipsSpaced, ReadsRight}
 use Rattle.demands.proofs.Numbers.{read-number}
 use Rattle.block.proofs.Told.{three-lost}
 use Rattle.store.proofs.FreshBlocks.{zeros-fit}
-use Rattle.demands.proofs.Lasting.{store-size}
+use Rattle.demands.proofs.Lasting.{store-size, front-none}
 use Rattle.demands.proofs.ImageMemory.{found}
 use Rattle.demands.proofs.Parts.{Part, calls, allParts, parts-append, parts-written}
 use Rattle.demands.proofs.Simulated.{LayoutFrom, memory, run-image}
@@ -64,12 +64,16 @@ module _ (image : List ℕ) (layout : Layout) (before rest : List Step) (block :
     (one : OneLayout image layout (before ++ read layout block buffer ∷ rest))
     (words : WordsWritten (before ++ read layout block buffer ∷ rest))
     (spaced : FlipsSpaced image layout (before ++ read layout block buffer ∷ rest))
+    (none : NotFormatted image layout (before ++ read layout block buffer ∷ rest))
     (passed : dataRefusal (length (store image layout before .image)) layout block (length buffer) ≡ 0) where
   abbrev last : List ℕ
   last = lastWritten block (replicate (wordsOf layout) 0) before (fresh image layout)
 
   layout-before : LayoutFrom layout (fresh image layout) before
   layout-before = layout-front image layout before rest (read layout block buffer) one
+
+  none-before : NotFormatted image layout before
+  none-before = front-none (fresh image layout) before (read layout block buffer ∷ rest) none
 
   last-data : DataOf layout last
   last-data =
@@ -87,7 +91,7 @@ module _ (image : List ℕ) (layout : Layout) (before rest : List Step) (block :
   -- the image is that of the memory, and the read is one of its reads
   memory-is : store image layout before .image ≡ memoryAt (memory (length image) layout fits) (partsOf image layout before)
   memory-is =
-      run-image (length image) layout fits before (fresh image layout) (fresh-stays image layout fits) layout-before
+      run-image (length image) layout fits before (fresh image layout) none-before (fresh-stays image layout fits) layout-before
       ∙ ap₂ (memoryRun (memory (length image) layout fits) (partsOf image layout before)) (fresh-rota image layout fits) (fresh-image image layout fits)
 
   later : List Part
@@ -132,16 +136,17 @@ Right image layout before rest block buffer named =
     OneLayout image layout (before ++ read named block buffer ∷ rest)
     → WordsWritten (before ++ read named block buffer ∷ rest)
     → FlipsSpaced image layout (before ++ read named block buffer ∷ rest)
+    → NotFormatted image layout (before ++ read named block buffer ∷ rest)
     → dataRefusal (length (store image layout before .image)) named block (length buffer) ≡ 0
     → (answerVerdict (readAnswer (store image layout before .image) named block buffer) ≡ 3 → ⊥)
     × (readBuffer (store image layout before .image) named block buffer ≡ lastWritten block (replicate (wordsOf layout) 0) before (fresh image layout))
 
 pub reads-right : (image : List ℕ) (layout : Layout) → ReadsRight image layout
-reads-right image layout steps one words spaced before rest named block buffer e answer left promise accepted =
+reads-right image layout steps one words spaced none before rest named block buffer e answer kept left promise accepted =
     let given = reads-answer _ _ _ _ promise in
     let number = sym (ap answerNumber given) ∙ accepted in
     let same = one before rest (read named block buffer) e number in
     let passed = sym (read-number (store image layout before .image) named block buffer) ∙ number in
     let any = subst (λ (other : Layout). Right image layout before rest block buffer other) (sym same) (right image layout before rest block buffer) in
-    let both = any (rw e at one) (rw e at words) (rw e at spaced) passed in
+    let both = any (rw e at one) (rw e at words) (rw e at spaced) (rw e at none) passed in
     (λ lost. both .0 (sym (ap answerVerdict given) ∙ lost), promise .leaves ∙ both .1)

@@ -13,7 +13,7 @@ use Rattle.patrol.specs.declared.Record.{Record}
 use Rattle.patrol.specs.Ask.{asked, askedBy}
 use Rattle.patrol.specs.Format.{freshRecord, noRecord, formatted}
 use Rattle.demands.specs.Steps.{Step, fresh}
-use Rattle.demands.specs.Demand3.{store}
+use Rattle.demands.specs.Demand3.{store, NotFormatted}
 use Rattle.demands.proofs.Lasting.{after-layout}
 
 -- an ask that is given a place is of a record whose layout is accepted
@@ -31,14 +31,14 @@ unfolding layoutRefusal
 zeros-refused e = omega arith
 
 -- so where an ask is given a place, the format was accepted
-pub given-formatted : (image : List ℕ) (layout : Layout) (before : List Step) (block place : ℕ)
+pub given-formatted : (image : List ℕ) (layout : Layout) (before : List Step) → NotFormatted image layout before → (block place : ℕ)
     → asked (store image layout before .patrol) block .place ≡ Given place
     → imageRefusal (length image) layout ≡ 0
 unfolding formatted
-given-formatted image layout before block place e = go (imageRefusal (length image) layout) refl
+given-formatted image layout before none block place e = go (imageRefusal (length image) layout) refl
   where
     passed : layoutRefusal (fresh image layout .patrol .layout) ≡ 0
-    passed = sym (ap layoutRefusal (after-layout before (fresh image layout))) ∙ given-accepted (store image layout before .patrol) block place e
+    passed = sym (ap layoutRefusal (after-layout before (fresh image layout) none)) ∙ given-accepted (store image layout before .patrol) block place e
 
     go : (number : ℕ) → imageRefusal (length image) layout ≡ number → imageRefusal (length image) layout ≡ 0
     go zero f = f

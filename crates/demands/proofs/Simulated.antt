@@ -1,5 +1,5 @@
--- The store runs as its rota and its memory do, by the parts of its steps: its record as the rota, whatever the calls name, and its image
--- as the memory, where every accepted call names the store's layout. Assumes nothing.
+-- The store runs as its rota and its memory do, by the parts of its steps, where no format is accepted: its record as the rota, whatever the
+-- calls name, and its image as the memory, where every accepted call names the store's layout. Assumes nothing.
 use Prim.Native.Nat.{ℕ, zero, suc}
 use mathlib.Core.Path.{_≡_, refl, sym, ap, ap₂, _∙_}
 use mathlib.Core.List.{List, [], _∷_, _++_, map}
@@ -24,10 +24,10 @@ use Rattle.rota.specs.Steps.{other, rotaRun}
 use Rattle.rota.specs.Touches.{write as writes, read as reads, visit as visits}
 use Rattle.patrol.specs.Ask.{asked}
 use Rattle.patrol.specs.Turn.{patrolled, turned, turnAfter}
-use Rattle.demands.specs.Steps.{Step, write, read, visit, ask, turn, flip, State, stepAfter, after, answers}
+use Rattle.demands.specs.Steps.{Step, format, write, read, visit, ask, turn, flip, State, stepAfter, after, answers}
 use Rattle.demands.specs.Demand3.{SameLayout}
 use Rattle.demands.proofs.Numbers.{write-number, visit-number}
-use Rattle.demands.proofs.Lasting.{step-size, after-size, step-layout, after-layout}
+use Rattle.demands.proofs.Lasting.{NoFormat, NoneFormats, first-none, rest-none, format-left, step-size, after-size, step-layout, after-layout}
 use Rattle.demands.proofs.ImageMemory.{imageMemory}
 use Rattle.demands.proofs.Appended.{rota-append, memory-append}
 use Rattle.demands.proofs.Parts.{MemoryTouch, calls, parts, allParts}
@@ -56,11 +56,11 @@ module _ (len : ℕ) (layout : Layout) (fits : imageRefusal len layout ≡ 0) wh
     pub size : length (state .image) ≡ len
     pub names : state .patrol .layout ≡ layout
 
-  pub step-stays : (step : Step) (state : State) → OfStore state → OfStore (stepAfter step state)
-  step-stays step state ok = record { size = step-size step state ∙ ok .size; names = step-layout step state ∙ ok .names }
+  pub step-stays : (step : Step) (state : State) → NoFormat step state → OfStore state → OfStore (stepAfter step state)
+  step-stays step state none ok = record { size = step-size step state ∙ ok .size; names = step-layout step state none ∙ ok .names }
 
-  pub run-stays : (steps : List Step) (state : State) → OfStore state → OfStore (after steps state)
-  run-stays steps state ok = record { size = after-size steps state ∙ ok .size; names = after-layout steps state ∙ ok .names }
+  pub run-stays : (steps : List Step) (state : State) → NoneFormats state steps → OfStore state → OfStore (after steps state)
+  run-stays steps state none ok = record { size = after-size steps state ∙ ok .size; names = after-layout steps state none ∙ ok .names }
 
   -- ---- a step
 
@@ -75,15 +75,16 @@ module _ (len : ℕ) (layout : Layout) (fits : imageRefusal len layout ≡ 0) wh
   call-rota zero touches rota = touch-rota touches rota
   call-rota (suc number) touches rota = refl
 
-  pub step-rota : (step : Step) (state : State) → OfStore state
+  pub step-rota : (step : Step) (state : State) → NoFormat step state → OfStore state
       → stepAfter step state .patrol .rota ≡ rotaRun (blocks layout) (parts step state) (state .patrol .rota)
   unfolding asked turned rotaRun
-  step-rota (write named block list) state ok = call-rota (answers (write named block list) state) (writes block list ∷ []) (state .patrol .rota)
-  step-rota (read named block buffer) state ok = call-rota (answers (read named block buffer) state) (reads block ∷ []) (state .patrol .rota)
-  step-rota (visit named block) state ok = call-rota (answers (visit named block) state) (visits block ∷ []) (state .patrol .rota)
-  step-rota (ask block) state ok = rw (ok .names, image-layout layout len fits)
-  step-rota turn state ok = rw (ok .names, ok .size, fits)
-  step-rota (flip at bit) state ok = refl
+  step-rota (format named) state none ok = ap (λ (new : State). new .patrol .rota) (format-left state named none)
+  step-rota (write named block list) state none ok = call-rota (answers (write named block list) state) (writes block list ∷ []) (state .patrol .rota)
+  step-rota (read named block buffer) state none ok = call-rota (answers (read named block buffer) state) (reads block ∷ []) (state .patrol .rota)
+  step-rota (visit named block) state none ok = call-rota (answers (visit named block) state) (visits block ∷ []) (state .patrol .rota)
+  step-rota (ask block) state none ok = rw (ok .names, image-layout layout len fits)
+  step-rota turn state none ok = rw (ok .names, ok .size, fits)
+  step-rota (flip at bit) state none ok = refl
 
   module _ (state : State) (ok : OfStore state) where
     write-parts : (named : Layout) (block : ℕ) (list : List ℕ)
@@ -127,34 +128,37 @@ module _ (len : ℕ) (layout : Layout) (fits : imageRefusal len layout ≡ 0) wh
     unfolding turnAfter memoryRun
     turn-parts = rw (ok .names, ok .size, fits) (due-parts (rotaTurned (blocks layout) (state .patrol .rota) .due))
 
-    pub step-image : (step : Step) → (answers step state ≡ 0 → SameLayout layout step)
+    pub step-image : (step : Step) → NoFormat step state → (answers step state ≡ 0 → SameLayout layout step)
         → stepAfter step state .image ≡ memoryRun memory (parts step state) (state .patrol .rota) (state .image)
     unfolding memoryRun
-    step-image (write named block list) same = write-parts named block list same
-    step-image (read named block buffer) same = read-parts (answers (read named block buffer) state) block
-    step-image (visit named block) same = visit-parts named block same
-    step-image (ask block) same = refl
-    step-image turn same = turn-parts
-    step-image (flip at bit) same = refl
+    step-image (format named) none same = ap (λ (new : State). new .image) (format-left state named none)
+    step-image (write named block list) none same = write-parts named block list same
+    step-image (read named block buffer) none same = read-parts (answers (read named block buffer) state) block
+    step-image (visit named block) none same = visit-parts named block same
+    step-image (ask block) none same = refl
+    step-image turn none same = turn-parts
+    step-image (flip at bit) none same = refl
 
   -- ---- a list of steps
 
-  pub run-rota : (steps : List Step) (state : State) → OfStore state
+  pub run-rota : (steps : List Step) (state : State) → NoneFormats state steps → OfStore state
       → after steps state .patrol .rota ≡ rotaRun (blocks layout) (allParts steps state) (state .patrol .rota)
   unfolding after allParts rotaRun
-  run-rota [] state ok = refl
-  run-rota (step ∷ rest) state ok =
-      run-rota rest (stepAfter step state) (step-stays step state ok)
-      ∙ ap (rotaRun (blocks layout) (allParts rest (stepAfter step state))) (step-rota step state ok)
+  run-rota [] state none ok = refl
+  run-rota (step ∷ rest) state none ok =
+      let first = first-none state step rest none in
+      run-rota rest (stepAfter step state) (rest-none state step rest none) (step-stays step state first ok)
+      ∙ ap (rotaRun (blocks layout) (allParts rest (stepAfter step state))) (step-rota step state first ok)
       ∙ sym (rota-append (blocks layout) (parts step state) (allParts rest (stepAfter step state)) (state .patrol .rota))
 
-  pub run-image : (steps : List Step) (state : State) → OfStore state → LayoutFrom layout state steps
+  pub run-image : (steps : List Step) (state : State) → NoneFormats state steps → OfStore state → LayoutFrom layout state steps
       → after steps state .image ≡ memoryRun memory (allParts steps state) (state .patrol .rota) (state .image)
   unfolding after allParts memoryRun
-  run-image [] state ok one = refl
-  run-image (step ∷ rest) state ok one =
-      run-image rest (stepAfter step state) (step-stays step state ok) (rest-named layout state step rest one)
+  run-image [] state none ok one = refl
+  run-image (step ∷ rest) state none ok one =
+      let first = first-none state step rest none in
+      run-image rest (stepAfter step state) (rest-none state step rest none) (step-stays step state first ok) (rest-named layout state step rest one)
       ∙ ap₂ (memoryRun memory (allParts rest (stepAfter step state)))
-      (step-rota step state ok)
-      (step-image state ok step (first-named layout state step rest one))
+      (step-rota step state first ok)
+      (step-image state ok step first (first-named layout state step rest one))
       ∙ sym (memory-append memory (parts step state) (allParts rest (stepAfter step state)) (state .patrol .rota) (state .image))

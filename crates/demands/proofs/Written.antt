@@ -11,7 +11,7 @@ use Rattle.layout.specs.declared.Layout.{Layout}
 use Rattle.layout.specs.Layout.{wordsOf}
 use Rattle.store.specs.Refusal.{dataRefusal}
 use Rattle.store.proofs.Ladder.{data-accepted}
-use Rattle.demands.specs.Steps.{Step, write, read, visit, ask, turn, flip, State, stepAfter, answers, meant, lastWritten}
+use Rattle.demands.specs.Steps.{Step, format, write, read, visit, ask, turn, flip, State, stepAfter, answers, meant, lastWritten}
 use Rattle.demands.specs.Demand3.{SameLayout, WordsWritten}
 use Rattle.demands.proofs.Numbers.{write-number}
 use Rattle.demands.proofs.Simulated.{LayoutFrom, first-named, rest-named}
@@ -38,6 +38,7 @@ module _ (layout : Layout) (block : ℕ) where
           }
       go zero e false = ok
       go (suc number) e t = ok
+  meant-data old (format named) state same small ok = ok
   meant-data old (read named from buffer) state same small ok = ok
   meant-data old (visit named at) state same small ok = ok
   meant-data old (ask wanted) state same small ok = ok

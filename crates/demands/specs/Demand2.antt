@@ -1,18 +1,25 @@
 -- Demand 2: a visit leaves the one valid block that differs in at most one bit a lane, and says lost exactly if there is none;
--- a write stores the one valid block for its data; a read answers as a visit would and gives the mended data. Assumes nothing.
-use Prim.Native.Nat.{ℕ, _≤_}
+-- a write stores the one valid block for its data; a read answers as a visit would, gives the mended data and leaves the image.
+-- Assumes nothing.
+use Prim.Native.Nat.{ℕ, _≤_, _<_}
+use mathlib.Core.Bool.{Bool, true}
 use mathlib.Core.Path.{_≡_}
 use mathlib.Core.List.{List}
 use mathlib.Core.Logic.{_↔_}
+use Rattle.ground.specs.Totals.{total}
+use Rattle.lane.specs.Bit.{pick}
+use Rattle.lane.specs.Lane.{Lane, Valid, apart}
 use Rattle.shape.specs.declared.Shape.{Shape}
-use Rattle.block.specs.Block.{ValidBlock, dataOf, bitsChanged, lanesLost, Near, SameRows, Fitting}
+use Rattle.shape.specs.Shape.{before}
+use Rattle.block.specs.Words.{lane}
+use Rattle.block.specs.Block.{ValidBlock, dataOf, bitsChanged, Near, SameRows, Fitting}
 use Rattle.layout.specs.declared.Layout.{Layout}
 use Rattle.layout.specs.Layout.{shapeOf}
 use Rattle.store.specs.declared.Answer.{Answer}
 use Rattle.store.specs.Answer.{answerNumber, answerVerdict, answerCount}
 use Rattle.store.specs.Image.{gathered, Untouched}
 use Rattle.store.specs.Write.{writeAnswer, writeAfter}
-use Rattle.store.specs.Read.{readAnswer, readBuffer}
+use Rattle.store.specs.Read.{readAnswer, readBuffer, Reads}
 use Rattle.store.specs.Visit.{visitAnswer, visitAfter}
 
 -- what a found block may have been meant to be: a valid block that differs from it in at most one bit a lane
@@ -25,8 +32,21 @@ pub record Meant (shape : Shape) (found meant : List ℕ) : Type 0 where
 abbrev pub SaysClean : Answer → Type 0
 SaysClean answer = answerVerdict answer ≡ 1
 
+abbrev pub SaysMended : Answer → Type 0
+SaysMended answer = answerVerdict answer ≡ 2
+
 abbrev pub SaysLost : Answer → Type 0
 SaysLost answer = answerVerdict answer ≡ 3
+
+-- a lane of a block counts as lost: no valid lane is within one row of it
+abbrev pub LaneLost : Shape → List ℕ → ℕ → Type 0
+LaneLost shape found i = (meant : Lane) → Valid (before shape) meant → apart (before shape) (lane i found) meant ≤ 1 → ⊥
+
+-- so many of the 32 lanes are of a kind
+pub record CountsLanes (count : ℕ) (Kind : ℕ → Type 0) : Type 0 where
+  pub of-kind : ℕ → Bool
+  pub exactly : (i : ℕ) → i < 32 → (of-kind i ≡ true) ↔ Kind i
+  pub counted : count ≡ total 32 (λ i. pick (of-kind i) 1)
 
 -- ---- one block, as it was found and as it was left
 
@@ -38,11 +58,14 @@ pub record Mends (shape : Shape) (found left : List ℕ) (answer : Answer) : Typ
   pub only : (other : List ℕ) → Meant shape found other → SameRows shape other left
   -- lost exactly if there is none; the count is the lanes that are lost
   pub lost : SaysLost answer ↔ ((other : List ℕ) → Meant shape found other → ⊥)
-  pub lanes : SaysLost answer → answerCount answer ≡ lanesLost shape found
+  pub lanes : SaysLost answer → CountsLanes (answerCount answer) (LaneLost shape found)
   -- either count is from 1 to 32
   pub range : (SaysClean answer → ⊥) → (1 ≤ answerCount answer) × (answerCount answer ≤ 32)
-  -- clean exactly if the block was valid
+  -- clean exactly if the block was valid, and the count is then 0
   pub clean : SaysClean answer ↔ ValidBlock shape found
+  pub clean-count : SaysClean answer → answerCount answer ≡ 0
+  -- mended where it is neither
+  pub else-mended : (SaysClean answer → ⊥) → (SaysLost answer → ⊥) → SaysMended answer
 
 -- ---- the three calls, accepted
 
@@ -76,3 +99,7 @@ pub record Demand2 : Type 0 where
       → Reading layout block buffer (readAnswer image layout block buffer) (readBuffer image layout block buffer)
       (visitAnswer image layout block)
       (visitAfter image layout block)
+  -- accepted or refused, it leaves the image
+  pub read-leaves : (image : List ℕ) (layout : Layout) (block : ℕ) (buffer : List ℕ) (answer : Answer) (kept left : List ℕ)
+      → Reads image layout block buffer answer kept left
+      → kept ≡ image

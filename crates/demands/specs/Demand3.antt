@@ -1,4 +1,5 @@
--- Demand 3, of a freshly formatted store of N blocks, its record handed from call to call, and not formatted again.
+-- Demand 3, of a freshly formatted store of N blocks, its record handed from call to call, and not formatted again: a list of steps may
+-- hold any call, a format too, and no format in it is accepted.
 --   a. Every turn is accepted, and any N turns running visit every block.
 --   b. An ask given place k is served by the k-th turn after it, whatever comes between.
 --   c. If memory changes otherwise only by single flips between calls, with at least N turns between two flips in the same lane of the
@@ -20,7 +21,7 @@ use Rattle.patrol.specs.declared.Report.{Report}
 use Rattle.patrol.specs.declared.Report.the-variants.{Refused, One, Two}
 use Rattle.patrol.specs.Ask.{asked}
 use Rattle.patrol.specs.Numbers.{reportNumber}
-use Rattle.demands.specs.Steps.{Step, write, read, visit, ask, turn, flip, State, fresh, after, report, answers, turns, lastWritten}
+use Rattle.demands.specs.Steps.{Step, format, write, read, visit, ask, turn, flip, State, fresh, after, report, answers, turns, lastWritten}
 
 -- the report is of an accepted turn, and names the block as the patrol's
 abbrev pub PatrolVisits : ℕ → Report → Type 0
@@ -36,6 +37,7 @@ AskVisits block (Two first verdict second other) = second ≡ block
 
 -- the layout that a call names is this one
 abbrev pub SameLayout : Layout → Step → Type 0
+SameLayout layout (format named) = named ≡ layout
 SameLayout layout (write named block list) = named ≡ layout
 SameLayout layout (read named block buffer) = named ≡ layout
 SameLayout layout (visit named block) = named ≡ layout
@@ -58,6 +60,11 @@ module _ (image : List ℕ) (layout : Layout) where
   abbrev pub store : List Step → State
   store steps = after steps (fresh image layout)
 
+  -- not formatted again: no format in the list is accepted where it stands
+  abbrev pub NotFormatted : List Step → Type 0
+  NotFormatted steps =
+      (before rest : List Step) (named : Layout) → steps ≡ before ++ format named ∷ rest → answers (format named) (store before) ≡ 0 → ⊥
+
   -- ---- a
 
   -- the format is accepted
@@ -66,12 +73,13 @@ module _ (image : List ℕ) (layout : Layout) where
 
   -- every turn is accepted
   abbrev pub TurnsAccepted : Type 0
-  TurnsAccepted = FormatAccepted → (before : List Step) → reportNumber (report (store before)) ≡ 0
+  TurnsAccepted = FormatAccepted → (before : List Step) → NotFormatted before → reportNumber (report (store before)) ≡ 0
 
   -- in any N turns running every block is visited, whatever comes between
   abbrev pub EveryBlockVisited : Type 0
   EveryBlockVisited =
-      FormatAccepted → (before during : List Step) → blocks layout ≤ turns during → (block : ℕ) → block < blocks layout
+      FormatAccepted → (before during : List Step) → NotFormatted (before ++ during)
+      → blocks layout ≤ turns during → (block : ℕ) → block < blocks layout
       → (first rest : List Step) × (during ≡ first ++ turn ∷ rest) × PatrolVisits block (report (store (before ++ first)))
 
   -- ---- b
@@ -79,7 +87,8 @@ module _ (image : List ℕ) (layout : Layout) where
   -- an ask given place k is served by the k-th turn after it, whatever comes between
   abbrev pub AskServed : Type 0
   AskServed =
-      (before between : List Step) (block place : ℕ) → asked (store before .patrol) block .place ≡ Given place
+      (before between : List Step) (block place : ℕ) → NotFormatted (before ++ ask block ∷ between)
+      → asked (store before .patrol) block .place ≡ Given place
       → turns between + 1 ≡ place
       → AskVisits block (report (store (before ++ ask block ∷ between)))
 
@@ -102,9 +111,9 @@ module _ (image : List ℕ) (layout : Layout) where
   -- every accepted read is not lost, and leaves in the buffer the data last written to the block, or zeros
   abbrev pub ReadsRight : Type 0
   ReadsRight =
-      (steps : List Step) → OneLayout steps → WordsWritten steps → FlipsSpaced steps
+      (steps : List Step) → OneLayout steps → WordsWritten steps → FlipsSpaced steps → NotFormatted steps
       → (before rest : List Step) (named : Layout) (block : ℕ) (buffer : List ℕ) → steps ≡ before ++ read named block buffer ∷ rest
-      → (answer : Answer) (left : List ℕ) → Reads (store before .image) named block buffer answer left
+      → (answer : Answer) (kept left : List ℕ) → Reads (store before .image) named block buffer answer kept left
       → answerNumber answer ≡ 0
       → (answerVerdict answer ≡ 3 → ⊥) × (left ≡ lastWritten block (replicate (wordsOf layout) 0) before (fresh image layout))
 

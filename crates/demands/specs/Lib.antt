@@ -1,6 +1,6 @@
 pub mod Demand1
+pub mod Steps
 pub mod Demand2
 pub mod Examples
-pub mod Steps
 pub mod Promised
 pub mod Demand3

@@ -1,5 +1,6 @@
--- A list of steps: each is a call with its arguments, whatever they are, or one flip named by index and bit. Image and record go from
--- step to step as values, and each call leaves what its promise says: the definitions are those that the promises cite. Assumes nothing.
+-- A list of steps: each is one of the six calls with its arguments, whatever they are, or one flip named by index and bit. Image and record
+-- go from step to step as values, and each call leaves what its promise says: the definitions are those that the promises cite.
+-- A refused format leaves the record: the one of zeros that it gives is another, since it was handed none. Assumes nothing.
 use Prim.Native.Nat.{ℕ, suc, _^_}
 use mathlib.Core.Bool.{cond}
 use mathlib.Core.List.{List, [], _∷_}
@@ -22,6 +23,7 @@ use Rattle.patrol.specs.Ask.{asked}
 use Rattle.patrol.specs.Turn.{turned, turnAfter}
 
 pub data Step : Type 0 where
+  format : Layout → Step
   write : Layout → ℕ → List ℕ → Step
   read : Layout → ℕ → List ℕ → Step
   visit : Layout → ℕ → Step
@@ -34,7 +36,7 @@ pub record State : Type 0 where
   pub image : List ℕ
   pub patrol : Record
 
--- what format leaves
+-- what the first format leaves
 abbrev pub fresh : List ℕ → Layout → State
 fresh image layout = record { image = freshAfter image layout; patrol = formatted image layout .back }
 
@@ -44,6 +46,11 @@ flipped index bit image = cond (ltb bit 32) (set image index (bitXor (getD image
 
 -- the state after a step, and after a list of steps
 abbrev pub stepAfter : Step → State → State
+stepAfter (format layout) state =
+    record {
+      image = freshAfter (state .image) layout;
+      patrol = ifZero (formatted (state .image) layout .number) (formatted (state .image) layout .back) (state .patrol);
+    }
 stepAfter (write layout block list) state =
     record { image = writeAfter (state .image) layout block list; patrol = state .patrol }
 stepAfter (read layout block buffer) state = state
@@ -63,6 +70,7 @@ report state = turned (state .patrol) (state .image) .report
 
 -- the number that a call answers, which is 0 where it is accepted; a flip is no call
 abbrev pub answers : Step → State → ℕ
+answers (format layout) state = formatted (state .image) layout .number
 answers (write layout block list) state = answerNumber (writeAnswer (state .image) layout block list)
 answers (read layout block buffer) state = answerNumber (readAnswer (state .image) layout block buffer)
 answers (visit layout block) state = answerNumber (visitAnswer (state .image) layout block)
@@ -72,6 +80,7 @@ answers (flip index bit) state = 0
 
 -- how many turns a list has
 abbrev pub tick : Step → ℕ → ℕ
+tick (format layout) count = count
 tick (write layout block list) count = count
 tick (read layout block buffer) count = count
 tick (visit layout block) count = count
@@ -85,6 +94,7 @@ turns (step ∷ rest) = tick step (turns rest)
 
 -- the data that a block is meant to hold after a step: an accepted write to the block changes it, and nothing else does
 abbrev pub meant : ℕ → List ℕ → Step → State → List ℕ
+meant block old (format layout) state = old
 meant block old (write layout to list) state =
     ifZero (answers (write layout to list) state) (cond (eqb to block) list old) old
 meant block old (read layout from buffer) state = old

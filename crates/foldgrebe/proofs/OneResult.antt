@@ -12,11 +12,12 @@ pub one-write-call : {image list after after' : List ℕ} {layout : Layout} {blo
     → (number ≡ number') × (after ≡ after')
 one-write-call w w' = (same (w .answers) (w' .answers), same (w .leaves) (w' .leaves))
 
-pub one-read-call : {image buffer after after' verdict verdict' : List ℕ} {layout : Layout} {block number number' : ℕ}
-    → ReadCall image layout block buffer number after verdict
-    → ReadCall image layout block buffer number' after' verdict'
-    → (number ≡ number') × (after ≡ after') × (verdict ≡ verdict')
-one-read-call w w' = (same (w .answers) (w' .answers), same (w .leaves) (w' .leaves), same (w .says) (w' .says))
+pub one-read-call : {image buffer kept kept' after after' verdict verdict' : List ℕ} {layout : Layout} {block number number' : ℕ}
+    → ReadCall image layout block buffer number kept after verdict
+    → ReadCall image layout block buffer number' kept' after' verdict'
+    → (number ≡ number') × (kept ≡ kept') × (after ≡ after') × (verdict ≡ verdict')
+one-read-call w w' =
+    (same (w .answers) (w' .answers), same (w .keeps) (w' .keeps), same (w .leaves) (w' .leaves), same (w .says) (w' .says))
 
 pub one-visit-call : {image after after' verdict verdict' : List ℕ} {layout : Layout} {block number number' : ℕ}
     → VisitCall image layout block number after verdict

@@ -31,9 +31,10 @@ pub record WriteCall (image : List ℕ) (layout : Layout) (block : ℕ) (list : 
   pub answers : number ≡ dataRefusal (length image) layout block (length list)
   pub leaves : after ≡ writeAfter image layout block list
 
--- read: the buffer that was lent, and what it becomes
-pub record ReadCall (image : List ℕ) (layout : Layout) (block : ℕ) (buffer : List ℕ) (number : ℕ) (after verdict : List ℕ) : Type 0 where
+-- read: the image stays
+pub record ReadCall (image : List ℕ) (layout : Layout) (block : ℕ) (buffer : List ℕ) (number : ℕ) (kept after verdict : List ℕ) : Type 0 where
   pub answers : number ≡ dataRefusal (length image) layout block (length buffer)
+  pub keeps : kept ≡ image
   pub leaves : after ≡ readBuffer image layout block buffer
   pub says : verdict ≡ saidWords (ifZero (dataRefusal (length image) layout block (length buffer)) (toSay (shapeOf layout) (gathered layout block image)) unsaid)
 

@@ -28,7 +28,8 @@ pub extern "C" fn foldgrebe_read(
     buffer: &mut [u32],
     verdict: &mut [u32; VERDICT_WORDS],
 ) -> u32
-    ensures { λ r. ⌜ ReadCall (now (image .entry)) (layoutOf shape s g) block (now (buffer .entry)) r (now (buffer .exit)) (now (verdict .exit)) ⌝ }
+    ensures { λ r. ⌜ ReadCall (now (image .entry)) (layoutOf shape s g) block (now (buffer .entry)) r
+        (now (image .exit)) (now (buffer .exit)) (now (verdict .exit)) ⌝ }
 {
     let answer = store::read(image, Layout { shape, s, g }, block, buffer);
     *verdict = words::answer_words(answer);

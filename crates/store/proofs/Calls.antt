@@ -51,7 +51,7 @@ module _ (image : List ℕ) (layout : Layout) (block number : ℕ) where
   write-refused list e ne = writes _ _ _ _ (rw e (sym (answered-refused number _ ne))) (rw e (sym (refused-kept number _ image ne)))
 
   pub read-refused : (buffer : List ℕ) → dataRefusal (length image) layout block (length buffer) ≡ number → (number ≡ 0 → ⊥)
-      → Reads image layout block buffer (Refused number) buffer
+      → Reads image layout block buffer (Refused number) image buffer
   unfolding readAnswer readBuffer
   read-refused buffer e ne = reads _ _ _ _ (rw e (sym (answered-refused number _ ne))) (rw e (sym (refused-kept number _ buffer ne)))
 
@@ -101,7 +101,7 @@ module _ (image : List ℕ) {layout : Layout} {block : ℕ} {shape : Shape} {at 
       unfolding readAnswer
       read-answer = rw (list-fits (length image) layout block site (length buffer) fits) (ap Found judged)
 
-      pub read-lost : (m : ℕ) → v ≡ Lost m → Reads image layout block buffer (Found v) buffer
+      pub read-lost : (m : ℕ) → v ≡ Lost m → Reads image layout block buffer (Found v) image buffer
       unfolding readBuffer mendedData
       read-lost m l =
           reads _ _ _ _ read-answer
@@ -109,7 +109,7 @@ module _ (image : List ℕ) {layout : Layout} {block : ℕ} {shape : Shape} {at 
           (sym (refused-kept _ _ buffer (lost-some (shapeOf layout) (gathered layout block image) v judged m l))))
 
       pub read-data : NotLost v → (mended after : List ℕ) → mended ≡ mendedBlock shape found → after ≡ dataInto shape mended buffer
-          → Reads image layout block buffer (Found v) after
+          → Reads image layout block buffer (Found v) image after
       unfolding readBuffer mendedData
       read-data keys mended after e a =
           reads _ _ _ _ read-answer

@@ -52,11 +52,12 @@ module _ (image : List ℕ) (layout : Layout) (block : ℕ) where
   -- ---- read
 
   module _ (buffer : List ℕ) {answer : Answer} {after : List ℕ} where
-    pub reads : answer ≡ readAnswer image layout block buffer → after ≡ readBuffer image layout block buffer → Reads image layout block buffer answer after
+    pub reads : answer ≡ readAnswer image layout block buffer → after ≡ readBuffer image layout block buffer
+        → Reads image layout block buffer answer image after
     unfolding readAnswer
-    reads e f = record { answers = rw e (found (dataRefusal (length image) layout block (length buffer))); leaves = f }
+    reads e f = record { answers = rw e (found (dataRefusal (length image) layout block (length buffer))); keeps = refl; leaves = f }
 
-    pub reads-answer : Reads image layout block buffer answer after → answer ≡ readAnswer image layout block buffer
+    pub reads-answer : {kept : List ℕ} → Reads image layout block buffer answer kept after → answer ≡ readAnswer image layout block buffer
     unfolding readAnswer
     reads-answer w = answers-one answer _ (w .answers) (found (dataRefusal (length image) layout block (length buffer)))
 

@@ -26,9 +26,10 @@ readBuffer image layout block buffer =
     (mendedData (shapeOf layout) (gathered layout block image) buffer)
     buffer
 
--- the promise of read: what it answers, and the buffer that it leaves
-pub record Reads (image : List ℕ) (layout : Layout) (block : ℕ) (buffer : List ℕ) (answer : Answer) (after : List ℕ) : Type 0 where
+-- the promise of read: what it answers, that it leaves the image, and the buffer that it leaves
+pub record Reads (image : List ℕ) (layout : Layout) (block : ℕ) (buffer : List ℕ) (answer : Answer) (kept after : List ℕ) : Type 0 where
   pub answers : Answers (dataRefusal (length image) layout block (length buffer)) (toSay (shapeOf layout) (gathered layout block image)) answer
+  pub keeps : kept ≡ image
   pub leaves : after ≡ readBuffer image layout block buffer
 
 -- the answer itself

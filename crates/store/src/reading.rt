@@ -8,7 +8,7 @@ use layout::Site;
 use shape::MOST_ROWS;
 
 pub fn read(image: &[u32], layout: Layout, block: u32, buffer: &mut [u32]) -> Answer
-    ensures { λ r. ⌜ Reads (now (image .entry)) layout block (now (buffer .entry)) r (now (buffer .exit)) ⌝ }
+    ensures { λ r. ⌜ Reads (now (image .entry)) layout block (now (buffer .entry)) r (now (image .exit)) (now (buffer .exit)) ⌝ }
 {
     match layout.locate(image.len(), block) {
         Site::Nowhere(number) => Answer::Refused(number),

@@ -1,5 +1,5 @@
 -- `foldgrebe_read` meets its contract: what the store's read answers, as words, and the buffer that it leaves. Assumes nothing.
-use mathlib.Core.Path.{ap, _∙_}
+use mathlib.Core.Path.{refl, ap, _∙_}
 use Rattle.block.specs.Verdict.{saidWords}
 use borrow.Author.Needs.{needs}
 use Rattle.foldgrebe.proofs.store_calls.foldgrebe_read.Statement.{statement}
@@ -22,6 +22,7 @@ returns c =
     let gave = c .before .before .before .before .read .ensures in
     record {
       answers = c .answer-number .ensures ∙ gave .answers .number;
+      keeps = refl;
       leaves = gave .leaves;
       says = c .before .answer-words .ensures ∙ ap saidWords (gave .answers .says);
     }
