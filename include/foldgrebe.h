@@ -62,7 +62,8 @@ extern "C" {
 #define FOLDGREBE_PLACES            16   /* how many blocks can wait */
 #define FOLDGREBE_RECORD_WORDS      (FOLDGREBE_RECORD_PLACES + FOLDGREBE_PLACES)
 
-/* Sets every word of the image to zero, which is zero data in every block, and gives a new record. Refuses 1, 2, 3, 4. */
+/* Sets every word of the image to zero, which is zero data in every block, and gives a new record. Refuses 1, 2, 3, 4.
+   Refused, it gives a record of zeros: lend it other words than those of a record that is in use, or that one is gone. */
 uint32_t foldgrebe_format(uint32_t *image, size_t words, uint32_t shape, uint32_t s, uint32_t g, uint32_t record[FOLDGREBE_RECORD_WORDS]);
 
 /* Stores data_words words (11 or 64) as the block, and touches no other block. Refuses 1, 2, 3, 4, 6, 7. */
