@@ -5,7 +5,7 @@ use mathlib.Core.Bool.{cond, Bool, true}
 use mathlib.Core.Path.{_≡_}
 use mathlib.Core.List.{List, [], _∷_, _++_}
 use lib.Dec.{leb}
-use lib.ListN.{length, drop}
+use lib.ListN.{length, take, drop}
 use Rattle.block.specs.declared.Verdict.{Verdict}
 use Rattle.block.specs.Verdict.{verdictOf}
 use Rattle.layout.specs.declared.Layout.{Layout}
@@ -17,7 +17,7 @@ use Rattle.file.specs.declared.Header.the-variants.{Refused, Image}
 use Rattle.file.specs.Bytes.{wordCount, wordsIn}
 use Rattle.file.specs.Header.{headerOf}
 use Rattle.report.specs.declared.Tally.{Tally}
-use Rattle.text.specs.Page.{page, writtenAll}
+use Rattle.text.specs.Page.{page, writtenAll, endToEnd}
 use Rattle.report.specs.Lines.{refusalLine, imageLine, blockLine, totalLine, noBlocks, counted}
 
 -- ---- an image
@@ -70,7 +70,13 @@ visitedFor (Image layout) bytes image =
     (visitedBelow (wordsIn bytes) layout (blocks layout) ++ drop (wordCount (length bytes)) image)
     image
 
--- the promise of inspect: the lines are written from byte 0 on, each that fits; where the image has no room, none is
+-- the lines of a file with an image lent: they are written from byte 0 on, each that fits; where it has no room, none is
 pub record Reports (bytes image out : List ℕ) (next : ℕ) (after printed : List ℕ) : Type 0 where
   pub prints : page printed next ≡ cond (room? (headerOf bytes) bytes image) (writtenAll (reportOf bytes) (page out 0)) (page out 0)
   pub leaves : after ≡ visitedFor (headerOf bytes) bytes image
+
+-- the promise of inspect: the bytes up to the end that it answers are the whole report, and those past it are as they were
+pub record Inspects (bytes out : List ℕ) (end : ℕ) (left : List ℕ) : Type 0 where
+  pub ends : end ≡ length (endToEnd (reportOf bytes))
+  pub whole : take end left ≡ endToEnd (reportOf bytes)
+  pub past : drop end left ≡ drop end out

@@ -4,6 +4,9 @@ mod reporting;
 
 pub use reporting::inspect;
 
+// The longest report: 511 blocks of shape 1, each mended with a count of two digits.
+pub const REPORT_BYTES: usize = 10202;
+
 // The blocks of each verdict, and all bits mended.
 pub(crate) struct Tally {
     pub(crate) clean: u32,
