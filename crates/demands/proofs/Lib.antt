@@ -21,3 +21,4 @@ pub mod Written
 pub mod Reading
 pub mod Demand3
 pub mod Needed
+pub mod Files

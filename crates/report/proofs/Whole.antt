@@ -172,9 +172,10 @@ report-short image layout ok few =
 file-most : (bytes : List ℕ) → Accepted bytes → (blocks (layoutIn bytes) ≤ 511) × (wordCount (length bytes) ≤ 8176)
 file-most bytes ok =
     let size : Shape → ℕ = λ (shape : Shape). 4 * (rows shape * blocks (layoutIn bytes)) in
+    let most = ok .frame .most in
     ⊎-elim
-    (λ e. let body = ok .body ∙ ap size (shape-one (layoutIn bytes .shape) e) in (omega (arith, ok .frame .most), omega (arith, ok .frame .most)))
-    (λ e. let body = ok .body ∙ ap size (shape-two (layoutIn bytes .shape) (λ q. omega arith)) in (omega (arith, ok .frame .most), omega (arith, ok .frame .most)))
+    (λ e. let body = ok .body ∙ ap size (shape-one (layoutIn bytes .shape) e) in (omega arith, omega arith))
+    (λ e. let body = ok .body ∙ ap size (shape-two (layoutIn bytes .shape) (λ q. omega arith)) in (omega arith, omega arith))
     (ok .geometry .shape-known)
 
 -- no rule has a number above 11
