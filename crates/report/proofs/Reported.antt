@@ -12,7 +12,8 @@ use Rattle.file.specs.Bytes.{wordCount, wordsIn}
 use Rattle.file.specs.Header.{headerOf}
 use Rattle.text.specs.Page.{page, written, writtenAll}
 use Rattle.report.specs.Lines.{refusalLine}
-use Rattle.report.specs.Report.{visitedBelow, imageReport, reportOf, Reports, Inspects}
+use Rattle.report.specs.Report.{visitedBelow, imageReport, reportOf, Inspects}
+use Rattle.report.specs.Inner.{Reports}
 
 -- ---- the three ways of a report
 

@@ -34,7 +34,8 @@ use Rattle.ground.proofs.Bools.{left-part, right-part}
 use Rattle.text.specs.Text.{ascii, decimal, named, lineEnd}
 use Rattle.text.specs.Page.{Page, page, writtenAll, endToEnd}
 use Rattle.report.specs.Lines.{refusalLine, imageLine, verdictName, blockLine, totalLine, counted}
-use Rattle.report.specs.Report.{blockLines, tallyBelow, verdictAt, imageReport, reportFor, reportOf, room?, Reports, Inspects}
+use Rattle.report.specs.Report.{blockLines, tallyBelow, verdictAt, imageReport, reportFor, reportOf, Inspects}
+use Rattle.report.specs.Inner.{room?, Reports}
 use Rattle.report.proofs.Counts.{Within, verdict-most, tally-within}
 use Rattle.text.proofs.Decimal.{decimal-short}
 use Rattle.text.proofs.Pages.{all-fit}
@@ -56,6 +57,9 @@ named-short text n most h = record { few = omega (arith, length-append (ascii te
 any-length : (text : List ℕ) → Short text (length text)
 any-length text = record { few = omega arith }
 
+loosely : {text : List ℕ} {few most : ℕ} → Short text few → few ≤ most → Short text most
+loosely h k = record { few = omega (arith, h .few) }
+
 one-end : Short lineEnd 1
 one-end = any-length lineEnd
 
@@ -68,6 +72,9 @@ digits n h = elim (decLt n 10) [
     | no k ↦ omega (arith, decimal-short 2 n h)
   ]
 ]
+
+few-digits : (n : ℕ) → n < 1000 → length (decimal n) ≤ 1 + 2 * n
+few-digits n h = omega (arith, digits n h)
 
 refusal-short : (number : ℕ) → number < 100 → Short (refusalLine number) 11
 unfolding refusalLine
@@ -85,18 +92,18 @@ factors-short s g first last few = elim (decLt s 10) [
       omega (arith, decimal-short 1 s (omega arith), decimal-short 1 g (omega arith))
 ]
 
-image-short : (layout : Layout) → Geometry layout → blocks layout ≤ 511 → length (imageLine layout (blocks layout)) ≤ 49
+image-short : (layout : Layout) → Geometry layout → blocks layout ≤ 511 → Short (imageLine layout (blocks layout)) 49
 unfolding imageLine
 image-short layout ok few =
     let known : layout .shape ≤ 2 = ⊎-elim (λ e. omega arith) (λ e. omega arith) (ok .shape-known) in
     let factors = factors-short (layout .s) (layout .g) (ok .s-first) (ok .s-last) few in
-    let line =
-    named-short "image shape " (layout .shape) 1 (omega (arith, digits (layout .shape) (omega arith)))
+    loosely
+    (named-short "image shape " (layout .shape) 1 (decimal-short 0 (layout .shape) (omega arith))
     and named-short " interleave " (layout .s) (length (decimal (layout .s))) (omega arith)
     and named-short " groups " (layout .g) (length (decimal (layout .g))) (omega arith)
-    and named-short " blocks " (blocks layout) 3 (omega (arith, digits (blocks layout) (omega arith)))
-    and one-end in
-    omega (arith, line .few)
+    and named-short " blocks " (blocks layout) 3 (decimal-short 2 (blocks layout) (omega arith))
+    and one-end)
+    (omega arith)
 
 -- the blocks that are clean or lost: their lines are two bytes shorter
 abbrev plain : Tally → ℕ
@@ -104,27 +111,29 @@ plain tally = tally .clean + tally .lost
 
 verdict-short : (v : Verdict) (tally : Tally) → verdictCount v ≤ 32
     → length (named (verdictName v) (verdictCount v)) + 2 * plain (counted v tally) ≤ 10 + 2 * plain tally
-verdict-short Clean tally h = omega (arith, named-short " clean " 0 1 (omega (arith, digits 0 (omega arith))) .few)
-verdict-short (Mended m) tally h = omega (arith, named-short " mended " m 2 (omega (arith, digits m (omega arith))) .few)
-verdict-short (Lost m) tally h = omega (arith, named-short " lost " m 2 (omega (arith, digits m (omega arith))) .few)
+verdict-short Clean tally h = omega (arith, named-short " clean " 0 1 (decimal-short 0 0 (omega arith)) .few)
+verdict-short (Mended m) tally h = omega (arith, named-short " mended " m 2 (decimal-short 1 m (omega arith)) .few)
+verdict-short (Lost m) tally h = omega (arith, named-short " lost " m 2 (decimal-short 1 m (omega arith)) .few)
 
-block-short : (block : ℕ) (v : Verdict) (tally : Tally) → block < 1000 → verdictCount v ≤ 32
+block-short : (block : ℕ) (v : Verdict) (tally : Tally) → verdictCount v ≤ 32
     → length (blockLine block v) + 2 * plain (counted v tally) ≤ 17 + length (decimal block) + 2 * plain tally
 unfolding blockLine
-block-short block v tally h c =
-    let line = named-short "block " block (length (decimal block)) (omega arith) and any-length (named (verdictName v) (verdictCount v)) and one-end in
+block-short block v tally c =
+    let verdict = any-length (named (verdictName v) (verdictCount v)) in
+    let line = named-short "block " block (length (decimal block)) (omega arith) and verdict and one-end in
     omega (arith, line .few, verdict-short v tally c)
 
-total-short : (n : ℕ) (tally : Tally) → n ≤ 511 → Within n tally → length (totalLine tally) ≤ 43 + 2 * plain tally
+-- the digits of the clean and of the lost are paid for by those two bytes
+total-short : (n : ℕ) (tally : Tally) → n ≤ 511 → Within n tally → Short (totalLine tally) (43 + 2 * plain tally)
 unfolding totalLine
 total-short n tally h w =
-    let line =
-    named-short "total clean " (tally .clean) (1 + 2 * tally .clean) (omega (arith, digits (tally .clean) (omega (arith, w .clean))))
+    loosely
+    (named-short "total clean " (tally .clean) (1 + 2 * tally .clean) (few-digits (tally .clean) (omega (arith, w .clean)))
     and named-short " mended " (tally .mended) 3 (decimal-short 2 (tally .mended) (omega (arith, w .mended)))
-    and named-short " lost " (tally .lost) (1 + 2 * tally .lost) (omega (arith, digits (tally .lost) (omega (arith, w .lost))))
+    and named-short " lost " (tally .lost) (1 + 2 * tally .lost) (few-digits (tally .lost) (omega (arith, w .lost)))
     and named-short " bits " (tally .bits) 5 (decimal-short 4 (tally .bits) (omega (arith, w .bits)))
-    and one-end in
-    omega (arith, line .few)
+    and one-end)
+    (omega arith)
 
 -- ---- the report of an image
 
@@ -145,7 +154,7 @@ blocks-short image layout (suc n) h =
     omega (
       arith,
       end-to-end-last (blockLines image layout n) (blockLine n v),
-      block-short n v (tallyBelow image layout n) (omega arith) (verdict-most image layout n),
+      block-short n v (tallyBelow image layout n) (verdict-most image layout n),
       digits n (omega arith),
       blocks-short image layout n (omega arith),
     )
@@ -160,10 +169,10 @@ report-short image layout ok few =
     omega (
       arith,
       length-append first (endToEnd rest),
-      image-short layout ok few,
+      image-short layout ok few .few,
       end-to-end-last (blockLines image layout n) total,
       blocks-short image layout n few,
-      total-short n (tallyBelow image layout n) few (tally-within image layout n),
+      total-short n (tallyBelow image layout n) few (tally-within image layout n) .few,
     )
 
 -- ---- the report of a file

@@ -4,7 +4,10 @@ mod reporting;
 
 pub use reporting::inspect;
 
-// The longest report: 511 blocks of shape 1, each mended with a count of two digits.
+// One byte more than the longest file has, so that a longer one is seen to be.
+pub const INPUT_BYTES: usize = 32769;
+
+// The longest report: 511 blocks of shape 1, each mended in 32 bits.
 pub const REPORT_BYTES: usize = 10202;
 
 // The blocks of each verdict, and all bits mended.
