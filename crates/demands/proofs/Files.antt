@@ -6,9 +6,9 @@ use mathlib.Core.List.{List, [], _∷_, append-nil}
 use mathlib.Core.Logic.{inl, inr, ⊎-elim, _↔_}
 use lib.Dec.{T, eqb}
 use lib.ListN.{take}
-use Rattle.ground.specs.Choice.{ifZero}
 use Rattle.ground.specs.Rules.{Rule, FirstOf, NoneOf}
 use Rattle.ground.proofs.Bools.{left-part, right-part}
+use Rattle.ground.proofs.Choices.{refused-kept}
 use Rattle.ground.proofs.Ladder.{numbered?}
 use Rattle.layout.specs.Layout.{layoutOf}
 use Rattle.file.specs.declared.Header.{Header}
@@ -77,12 +77,8 @@ module _ (bytes : List ℕ) where
       record {
         ruled = rw (r .number) file-in-order;
         named = λ none. r .layout ∙ rw (file-in-order .accepted .1 none);
-        bare = λ ne. r .layout ∙ zeros (fileRefusal bytes) (λ e. ne (r .number ∙ e));
+        bare = λ ne. r .layout ∙ refused-kept (fileRefusal bytes) (layoutIn bytes) (layoutOf 0 0 0) (λ e. ne (r .number ∙ e));
       }
-    where
-      zeros : (n : ℕ) → (n ≡ 0 → ⊥) → ifZero n (layoutIn bytes) (layoutOf 0 0 0) ≡ layoutOf 0 0 0
-      zeros zero ne = absurd (ne refl)
-      zeros (suc n) ne = refl
 
   refused-line : (number : ℕ) → (number ≡ 0 → ⊥) → fileRefusal bytes ≡ number → endToEnd (reportOf bytes) ≡ refusalLine number
   unfolding reportOf headerOf endToEnd
