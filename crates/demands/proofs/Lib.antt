@@ -23,3 +23,4 @@ pub mod Demand3
 pub mod Tests
 pub mod Needed
 pub mod Shown
+pub mod Files

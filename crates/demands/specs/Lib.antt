@@ -4,3 +4,4 @@ pub mod Demand2
 pub mod Examples
 pub mod Promised
 pub mod Demand3
+pub mod Files

@@ -2,3 +2,4 @@ pub mod Ladder
 pub mod Layouts
 pub mod RoundTrip
 pub mod Headers
+pub mod OneResult

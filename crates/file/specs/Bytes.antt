@@ -1,6 +1,7 @@
 -- Byte 0 of an image file is the version, 1. Bytes 1 to 4 hold, big-endian, the number of bytes after byte 4. Then stand the shape,
 -- one byte, s, one byte, G, two bytes, big-endian, and then the words of the image, big-endian. Assumes nothing.
 use Prim.Native.Nat.{ℕ, _+_, _-_, _*_, _/_, min}
+use mathlib.Core.Path.{_≡_}
 use mathlib.Core.List.{List, [], _∷_, _++_}
 use lib.ListN.{length, getD}
 use Rattle.ground.specs.Lists.{listOf}
@@ -43,3 +44,11 @@ wordsIn bytes = listOf (wordCount (length bytes)) (wordIn bytes)
 -- a lent image with the words copied to it, as many as fit; the words past them are as they were
 unfoldable pub wordsInto : List ℕ → List ℕ → List ℕ
 wordsInto bytes image = stores image (λ k. k) (wordIn bytes) (min (wordCount (length bytes)) (length image))
+
+-- ---- the promises of word_count and read_words
+
+abbrev pub CountsWords : ℕ → ℕ → Type 0
+CountsWords len count = count ≡ wordCount len
+
+abbrev pub ReadsWords : List ℕ → List ℕ → List ℕ → Type 0
+ReadsWords bytes image left = left ≡ wordsInto bytes image

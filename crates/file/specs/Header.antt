@@ -1,5 +1,6 @@
 -- The header is the file's refusal, or the layout that it names: shape, s and G. Assumes nothing.
 use Prim.Native.Nat.{ℕ}
+use mathlib.Core.Path.{_≡_}
 use mathlib.Core.List.{List}
 use Rattle.ground.specs.Choice.{ifZero}
 use Rattle.layout.specs.declared.Layout.{Layout}
@@ -24,3 +25,9 @@ headerIf number header = ifZero number header (Refused number)
 
 unfoldable pub headerOf : List ℕ → Header
 headerOf bytes = headerIf (fileRefusal bytes) (Image (layoutIn bytes))
+
+-- the promise of read_header: number and layout in the paper's values; a refusal has a number
+pub record HeaderRead (bytes : List ℕ) (header : Header) : Type 0 where
+  pub number : headerNumber header ≡ fileRefusal bytes
+  pub layout : headerLayout header ≡ ifZero (fileRefusal bytes) (layoutIn bytes) (layoutOf 0 0 0)
+  pub numbered : header ≡ Refused 0 → ⊥

@@ -1,7 +1,6 @@
 // The header and the words of a file.
-ghost use mathlib.Core.Path.{_≡_};
-ghost use Rattle.file.specs.Bytes.{wordCount, wordsInto};
-ghost use Rattle.file.specs.Header.{headerOf};
+ghost use Rattle.file.specs.Bytes.{CountsWords, ReadsWords};
+ghost use Rattle.file.specs.Header.{HeaderRead};
 use super::Header;
 use super::refusals::check_body;
 use super::refusals::check_frame;
@@ -12,7 +11,7 @@ use ground::least;
 use layout::Layout;
 
 pub fn read_header(bytes: &[u8]) -> Header
-    ensures { λ r. ⌜ r ≡ headerOf (now (bytes .entry)) ⌝ }
+    ensures { λ r. ⌜ HeaderRead (now (bytes .entry)) r ⌝ }
 {
     let frame = check_frame(bytes);
     if frame != 0 {
@@ -32,14 +31,14 @@ pub fn read_header(bytes: &[u8]) -> Header
 
 // How many whole words stand after the header of a file of `len` bytes.
 pub fn word_count(len: usize) -> usize
-    ensures { λ r. ⌜ r ≡ wordCount len ⌝ }
+    ensures { λ r. ⌜ CountsWords len r ⌝ }
 {
     if len < 9 { 0 } else { (len - 9) / 4 }
 }
 
 // Copies the words after the header, as many as fit.
 pub fn read_words(bytes: &[u8], image: &mut [u32])
-    ensures { λ _. ⌜ now (image .exit) ≡ wordsInto (now (bytes .entry)) (now (image .entry)) ⌝ }
+    ensures { λ _. ⌜ ReadsWords (now (bytes .entry)) (now (image .entry)) (now (image .exit)) ⌝ }
 {
     let count = least(word_count(bytes.len()), image.len());
     for k in 0..count {

@@ -1,13 +1,14 @@
 // Prints, of each file of data/, its name and what `inspect` prints of it.
 use libc::STDOUT_FILENO;
+use report::INPUT_BYTES;
+use report::REPORT_BYTES;
 
 // The report of what a descriptor gives.
 fn inspect(input: i32) {
-    let mut bytes = [0u8; 32769];
+    let mut bytes = [0u8; INPUT_BYTES];
     let count = io::read_full(input, &mut bytes);
-    let mut image = [0u32; 8192];
-    let mut out = [0u8; 16384];
-    let end = report::inspect(&bytes[..count], &mut image, &mut out);
+    let mut out = [0u8; REPORT_BYTES];
+    let end = report::inspect(&bytes[..count], &mut out);
     io::write_all(STDOUT_FILENO, &out[..end]);
 }
 

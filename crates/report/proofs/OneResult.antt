@@ -1,27 +1,13 @@
--- One result: two outcomes that satisfy the promise of a function over a file or its report are equal, answer and every lent byte or word. Assumes nothing.
+-- One result: two outcomes that satisfy the promise of inspect are equal, answer and every lent byte. Assumes nothing.
 use Prim.Native.Nat.{ℕ}
-use mathlib.Core.Path.{_≡_}
-use mathlib.Core.List.{List}
-use Rattle.file.specs.declared.Header.{Header}
-use Rattle.file.specs.Header.{headerOf}
-use Rattle.file.specs.Bytes.{wordCount, wordsInto}
+use mathlib.Core.Path.{_≡_, sym, ap, ap₂, _∙_}
+use mathlib.Core.List.{List, _++_}
+use lib.ListN.{drop, take-append-drop}
 use Rattle.ground.proofs.Same.{same}
-use Rattle.text.proofs.OneResult.{parted}
-use Rattle.report.specs.Report.{Reports}
+use Rattle.report.specs.Report.{Inspects}
 
-pub one-header : (bytes : List ℕ) (a b : Header) → a ≡ headerOf bytes → b ≡ headerOf bytes → a ≡ b
-one-header bytes a b p q = same p q
-
-pub one-count : (len a b : ℕ) → a ≡ wordCount len → b ≡ wordCount len → a ≡ b
-one-count len a b p q = same p q
-
-pub one-file-words : (bytes image a b : List ℕ) → a ≡ wordsInto bytes image → b ≡ wordsInto bytes image → a ≡ b
-one-file-words bytes image a b p q = same p q
-
-pub one-report : (bytes image out : List ℕ) (m n : ℕ) (after after′ printed printed′ : List ℕ)
-    → Reports bytes image out m after printed
-    → Reports bytes image out n after′ printed′
-    → (m ≡ n) × (after ≡ after′) × (printed ≡ printed′)
-one-report bytes image out m n after after′ printed printed′ p q =
-    let e = parted (same (p .prints) (q .prints)) in
-    (e .1, same (p .leaves) (q .leaves), e .0)
+pub one-report : (bytes out : List ℕ) {m n : ℕ} {a b : List ℕ} → Inspects bytes out m a → Inspects bytes out n b → (m ≡ n) × (a ≡ b)
+one-report bytes out {m} {n} {a} {b} p q =
+    let ends = same (p .ends) (q .ends) in
+    let past = p .past ∙ ap (λ (k : ℕ). drop k out) ends ∙ sym (q .past) in
+    (ends, sym (take-append-drop m a) ∙ ap₂ (λ (front rest : List ℕ). front ++ rest) (same (p .whole) (q .whole)) past ∙ take-append-drop n b)

@@ -1,20 +1,19 @@
 -- What a report prints and leaves, from what its steps gave. Assumes nothing.
 use Prim.Native.Nat.{ℕ, _≤_, _<_}
-use mathlib.Core.Bool.{Bool, true, false, cond}
-use mathlib.Core.Path.{_≡_, sym, subst}
+use mathlib.Core.Path.{_≡_, sym, ap, _∙_}
 use mathlib.Core.List.{List, _++_}
 use native.Mathlib.Omega.{arith}
 use borrow.Author.Tests.{le-leb, lt-leb}
-use lib.ListN.{length, drop}
+use lib.ListN.{length, take, drop, length-take}
 use Rattle.layout.specs.declared.Layout.{Layout}
 use Rattle.layout.specs.Layout.{blocks}
 use Rattle.file.specs.declared.Header.the-variants.{Refused, Image}
 use Rattle.file.specs.Bytes.{wordCount, wordsIn}
 use Rattle.file.specs.Header.{headerOf}
-use Rattle.text.specs.Page.{Page, page, written, writtenAll}
+use Rattle.text.specs.Page.{page, written, writtenAll}
 use Rattle.report.specs.Lines.{refusalLine}
-use Rattle.report.specs.Report.{visitedBelow, imageReport, reportOf, room?, Reports}
-use Rattle.text.proofs.Pages.{all-inside}
+use Rattle.report.specs.Report.{visitedBelow, imageReport, reportOf, Inspects}
+use Rattle.report.specs.Inner.{Reports}
 
 -- ---- the three ways of a report
 
@@ -47,14 +46,9 @@ report-no-room bytes image out layout e h =
 
 -- ---- where a report ends
 
-cond-inside : (b : Bool) (p q : Page) → p .next ≤ length (p .bytes) → q .next ≤ length (q .bytes)
-    → cond b p q .next ≤ length (cond b p q .bytes)
-cond-inside true p q h k = h
-cond-inside false p q h k = k
+module _ {bytes out left : List ℕ} {end : ℕ} (r : Inspects bytes out end left) where
+  pub report-count : end ≡ length (take end left)
+  report-count = r .ends ∙ ap length (sym (r .whole))
 
-pub report-inside : {bytes image out after printed : List ℕ} {next : ℕ} → Reports bytes image out next after printed → next ≤ length printed
-report-inside {bytes} {image} {out} {after} {printed} {next} r =
-    subst (λ (p : Page). p .next ≤ length (p .bytes)) (sym (r .prints))
-    (cond-inside (room? (headerOf bytes) bytes image) (writtenAll (reportOf bytes) (page out 0)) (page out 0)
-    (all-inside (reportOf bytes) (page out 0) (omega arith))
-    (omega arith))
+  pub report-inside : end ≤ length left
+  report-inside = omega (arith, report-count, length-take end left)

@@ -1,15 +1,17 @@
--- A report has at most 16,384 bytes, so that a buffer of that size holds it whole. Assumes nothing.
-use Prim.Native.Nat.{ℕ, zero, suc, _+_, _*_, _^_, _≤_, _<_}
+-- A file has at most 8,176 words and a report at most 10,202 bytes, so that buffers of those sizes hold them whole. Assumes nothing.
+use Prim.Native.Nat.{ℕ, zero, suc, _+_, _-_, _*_, _≤_, _<_}
 use Prim.Native.String.{String}
 use mathlib.Core.Bool.{Bool, true, cond, _&&_}
-use mathlib.Core.Path.{_≡_, refl, ap, _∙_}
+use mathlib.Core.Path.{_≡_, refl, sym, ap, _∙_}
 use mathlib.Core.List.{List, [], _∷_, _++_}
 use mathlib.Core.Logic.{⊎-elim}
+use native.Mathlib.Decide.{decLt}
 use native.Mathlib.Nat.{zero-add, mul-le-mul-left}
 use native.Mathlib.Omega.{arith}
 use borrow.Author.Tests.{le-leb}
 use lib.Dec.{T, leb, leb→le}
-use lib.ListN.{length, drop, length-append}
+use lib.ListN.{length, take, drop, length-append}
+use lib.Seq.{take-at, drop-at}
 use Rattle.shape.specs.declared.Shape.{Shape}
 use Rattle.shape.specs.Shape.{rows}
 use Rattle.block.specs.declared.Verdict.{Verdict}
@@ -30,9 +32,10 @@ use Rattle.file.proofs.Ladder.{Accepted, accepted, file-first}
 use Rattle.report.specs.declared.Tally.{Tally}
 use Rattle.ground.proofs.Bools.{left-part, right-part}
 use Rattle.text.specs.Text.{ascii, decimal, named, lineEnd}
-use Rattle.text.specs.Page.{page, writtenAll, endToEnd}
-use Rattle.report.specs.Lines.{refusalLine, imageLine, verdictName, blockLine, totalLine}
-use Rattle.report.specs.Report.{blockLines, tallyBelow, verdictAt, imageReport, reportFor, reportOf, room?, Reports}
+use Rattle.text.specs.Page.{Page, page, writtenAll, endToEnd}
+use Rattle.report.specs.Lines.{refusalLine, imageLine, verdictName, blockLine, totalLine, counted}
+use Rattle.report.specs.Report.{blockLines, tallyBelow, verdictAt, imageReport, reportFor, reportOf, Inspects}
+use Rattle.report.specs.Inner.{room?, Reports}
 use Rattle.report.proofs.Counts.{Within, verdict-most, tally-within}
 use Rattle.text.proofs.Decimal.{decimal-short}
 use Rattle.text.proofs.Pages.{all-fit}
@@ -47,43 +50,90 @@ infixl 65 _and_
 _and_ : {a b : List ℕ} {m n : ℕ} → Short a m → Short b n → Short (a ++ b) (m + n)
 _and_ {a} {b} {m} {n} h k = record { few = omega (arith, length-append a b, h .few, k .few) }
 
--- a text and a number of at most k + 1 digits
-named-short : (text : String) (k n : ℕ) → n < 10 ^ suc k → Short (named text n) (length (ascii text) + suc k)
-named-short text k n h = record { few = omega (arith, length-append (ascii text) (decimal n), decimal-short k n h) }
+-- a text and a number of at most so many digits
+named-short : (text : String) (n most : ℕ) → length (decimal n) ≤ most → Short (named text n) (length (ascii text) + most)
+named-short text n most h = record { few = omega (arith, length-append (ascii text) (decimal n)) }
+
+any-length : (text : List ℕ) → Short text (length text)
+any-length text = record { few = omega arith }
+
+loosely : {text : List ℕ} {few most : ℕ} → Short text few → few ≤ most → Short text most
+loosely h k = record { few = omega (arith, h .few) }
 
 one-end : Short lineEnd 1
-one-end = record { few = omega arith }
+one-end = any-length lineEnd
+
+-- a number has one digit, one more from 10 on, and one more from 100 on
+digits : (n : ℕ) → n < 1000 → length (decimal n) + (n - 10) + (n - 100) ≤ 1 + (suc n - 10) + (suc n - 100)
+digits n h = elim (decLt n 10) [
+  | yes l ↦ omega (arith, decimal-short 0 n l)
+  | no l ↦ elim (decLt n 100) [
+    | yes k ↦ omega (arith, decimal-short 1 n k)
+    | no k ↦ omega (arith, decimal-short 2 n h)
+  ]
+]
+
+few-digits : (n : ℕ) → n < 1000 → length (decimal n) ≤ 1 + 2 * n
+few-digits n h = omega (arith, digits n h)
 
 refusal-short : (number : ℕ) → number < 100 → Short (refusalLine number) 11
 unfolding refusalLine
-refusal-short number h = named-short "refused " 1 number h and one-end
+refusal-short number h = named-short "refused " number 2 (decimal-short 1 number h) and one-end
 
-image-short : (layout : Layout) (n : ℕ) → layout .shape < 10000 → layout .s < 10000 → layout .g < 10000 → n < 10000 → Short (imageLine layout n) 57
+-- s and G have at most four digits together
+factors-short : (s g : ℕ) → 1 ≤ s → s ≤ 16 → g * s ≤ 511 → length (decimal s) + length (decimal g) ≤ 4
+factors-short s g first last few = elim (decLt s 10) [
+  | yes l ↦
+      let groups = mul-le-mul-left g first in
+      omega (arith, decimal-short 0 s l, decimal-short 2 g (omega arith))
+  | no l ↦
+      let ten : 10 ≤ s = omega arith in
+      let groups = mul-le-mul-left g ten in
+      omega (arith, decimal-short 1 s (omega arith), decimal-short 1 g (omega arith))
+]
+
+image-short : (layout : Layout) → Geometry layout → blocks layout ≤ 511 → Short (imageLine layout (blocks layout)) 49
 unfolding imageLine
-image-short layout n hshape hs hg hn =
-    named-short "image shape " 3 (layout .shape) hshape
-    and named-short " interleave " 3 (layout .s) hs
-    and named-short " groups " 3 (layout .g) hg
-    and named-short " blocks " 3 n hn
-    and one-end
+image-short layout ok few =
+    let known : layout .shape ≤ 2 = ⊎-elim (λ e. omega arith) (λ e. omega arith) (ok .shape-known) in
+    let factors = factors-short (layout .s) (layout .g) (ok .s-first) (ok .s-last) few in
+    loosely
+    (named-short "image shape " (layout .shape) 1 (decimal-short 0 (layout .shape) (omega arith))
+    and named-short " interleave " (layout .s) (length (decimal (layout .s))) (omega arith)
+    and named-short " groups " (layout .g) (length (decimal (layout .g))) (omega arith)
+    and named-short " blocks " (blocks layout) 3 (decimal-short 2 (blocks layout) (omega arith))
+    and one-end)
+    (omega arith)
 
-verdict-short : (v : Verdict) → verdictCount v ≤ 32 → Short (named (verdictName v) (verdictCount v)) 10
-verdict-short Clean h = record { few = omega (arith, named-short " clean " 1 0 (omega arith) .few) }
-verdict-short (Mended m) h = named-short " mended " 1 m (omega arith)
-verdict-short (Lost m) h = record { few = omega (arith, named-short " lost " 1 m (omega arith) .few) }
+-- the blocks that are clean or lost: their lines are two bytes shorter
+abbrev plain : Tally → ℕ
+plain tally = tally .clean + tally .lost
 
-block-short : (block : ℕ) (v : Verdict) → block < 10000 → verdictCount v ≤ 32 → Short (blockLine block v) 21
+verdict-short : (v : Verdict) (tally : Tally) → verdictCount v ≤ 32
+    → length (named (verdictName v) (verdictCount v)) + 2 * plain (counted v tally) ≤ 10 + 2 * plain tally
+verdict-short Clean tally h = omega (arith, named-short " clean " 0 1 (decimal-short 0 0 (omega arith)) .few)
+verdict-short (Mended m) tally h = omega (arith, named-short " mended " m 2 (decimal-short 1 m (omega arith)) .few)
+verdict-short (Lost m) tally h = omega (arith, named-short " lost " m 2 (decimal-short 1 m (omega arith)) .few)
+
+block-short : (block : ℕ) (v : Verdict) (tally : Tally) → verdictCount v ≤ 32
+    → length (blockLine block v) + 2 * plain (counted v tally) ≤ 17 + length (decimal block) + 2 * plain tally
 unfolding blockLine
-block-short block v h c = named-short "block " 3 block h and verdict-short v c and one-end
+block-short block v tally c =
+    let verdict = any-length (named (verdictName v) (verdictCount v)) in
+    let line = named-short "block " block (length (decimal block)) (omega arith) and verdict and one-end in
+    omega (arith, line .few, verdict-short v tally c)
 
-total-short : (n : ℕ) (tally : Tally) → n ≤ 4096 → Within n tally → Short (totalLine tally) 51
+-- the digits of the clean and of the lost are paid for by those two bytes
+total-short : (n : ℕ) (tally : Tally) → n ≤ 511 → Within n tally → Short (totalLine tally) (43 + 2 * plain tally)
 unfolding totalLine
 total-short n tally h w =
-    named-short "total clean " 3 (tally .clean) (omega (arith, w .clean))
-    and named-short " mended " 3 (tally .mended) (omega (arith, w .mended))
-    and named-short " lost " 3 (tally .lost) (omega (arith, w .lost))
-    and named-short " bits " 5 (tally .bits) (omega (arith, w .bits))
-    and one-end
+    loosely
+    (named-short "total clean " (tally .clean) (1 + 2 * tally .clean) (few-digits (tally .clean) (omega (arith, w .clean)))
+    and named-short " mended " (tally .mended) 3 (decimal-short 2 (tally .mended) (omega (arith, w .mended)))
+    and named-short " lost " (tally .lost) (1 + 2 * tally .lost) (few-digits (tally .lost) (omega (arith, w .lost)))
+    and named-short " bits " (tally .bits) 5 (decimal-short 4 (tally .bits) (omega (arith, w .bits)))
+    and one-end)
+    (omega arith)
 
 -- ---- the report of an image
 
@@ -95,42 +145,46 @@ end-to-end-last (first ∷ lines) line =
     let less = length-append first (endToEnd lines) in
     omega (arith, end-to-end-last lines line)
 
-blocks-short : (image : List ℕ) (layout : Layout) (n : ℕ) → n ≤ 4096 → length (endToEnd (blockLines image layout n)) ≤ 21 * n
-unfolding blockLines endToEnd
+blocks-short : (image : List ℕ) (layout : Layout) (n : ℕ) → n ≤ 511
+    → length (endToEnd (blockLines image layout n)) + 2 * plain (tallyBelow image layout n) ≤ 18 * n + (n - 10) + (n - 100)
+unfolding blockLines tallyBelow endToEnd
 blocks-short image layout zero h = omega arith
 blocks-short image layout (suc n) h =
-    let line = blockLine n (verdictAt image layout n) in
-    let last = end-to-end-last (blockLines image layout n) line in
-    let short = block-short n (verdictAt image layout n) (omega arith) (verdict-most image layout n) .few in
-    omega (arith, blocks-short image layout n (omega arith))
+    let v = verdictAt image layout n in
+    omega (
+      arith,
+      end-to-end-last (blockLines image layout n) (blockLine n v),
+      block-short n v (tallyBelow image layout n) (verdict-most image layout n),
+      digits n (omega arith),
+      blocks-short image layout n (omega arith),
+    )
 
-report-short : (image : List ℕ) (layout : Layout) → Geometry layout → blocks layout ≤ 511 → length (endToEnd (imageReport image layout)) ≤ 16384
+report-short : (image : List ℕ) (layout : Layout) → Geometry layout → blocks layout ≤ 511 → length (endToEnd (imageReport image layout)) ≤ 10202
 unfolding imageReport endToEnd
 report-short image layout ok few =
     let n = blocks layout in
-    let known : layout .shape ≤ 2 = ⊎-elim (λ e. omega arith) (λ e. omega arith) (ok .shape-known) in
-    let groups : layout .g ≤ n = omega (arith, mul-le-mul-left (layout .g) (ok .s-first)) in
     let total = totalLine (tallyBelow image layout n) in
     let first = imageLine layout n in
     let rest = blockLines image layout n ++ total ∷ [] in
     omega (
       arith,
       length-append first (endToEnd rest),
-      image-short layout n (omega arith) (omega (arith, ok .s-last)) (omega arith) (omega arith) .few,
+      image-short layout ok few .few,
       end-to-end-last (blockLines image layout n) total,
-      blocks-short image layout n (omega arith),
-      total-short n (tallyBelow image layout n) (omega arith) (tally-within image layout n) .few,
+      blocks-short image layout n few,
+      total-short n (tallyBelow image layout n) few (tally-within image layout n) .few,
     )
 
 -- ---- the report of a file
 
--- a file has room for at most 511 blocks
-file-blocks : (bytes : List ℕ) → Accepted bytes → blocks (layoutIn bytes) ≤ 511
-file-blocks bytes ok =
+-- a file has room for at most 511 blocks, and 8,176 words
+file-most : (bytes : List ℕ) → Accepted bytes → (blocks (layoutIn bytes) ≤ 511) × (wordCount (length bytes) ≤ 8176)
+file-most bytes ok =
     let size : Shape → ℕ = λ (shape : Shape). 4 * (rows shape * blocks (layoutIn bytes)) in
+    let most = ok .frame .most in
     ⊎-elim
-    (λ e. omega (arith, ok .frame .most, ok .body ∙ ap size (shape-one (layoutIn bytes .shape) e)))
-    (λ e. omega (arith, ok .frame .most, ok .body ∙ ap size (shape-two (layoutIn bytes .shape) (λ q. omega arith))))
+    (λ e. let body = ok .body ∙ ap size (shape-one (layoutIn bytes .shape) e) in (omega arith, omega arith))
+    (λ e. let body = ok .body ∙ ap size (shape-two (layoutIn bytes .shape) (λ q. omega arith)) in (omega arith, omega arith))
     (ok .geometry .shape-known)
 
 -- no rule has a number above 11
@@ -154,36 +208,44 @@ module _ (bytes : List ℕ) where
   abbrev found : Header
   found = Image (layoutIn bytes)
 
-  pub file-short : length (endToEnd (reportOf bytes)) ≤ 16384
+  pub file-short : length (endToEnd (reportOf bytes)) ≤ 10202
   unfolding reportOf headerOf endToEnd
   file-short = by (fileRefusal bytes) refl
     where
-      by : (n : ℕ) → fileRefusal bytes ≡ n → length (endToEnd (reportFor (headerIf n found) (wordsIn bytes))) ≤ 16384
+      by : (n : ℕ) → fileRefusal bytes ≡ n → length (endToEnd (reportFor (headerIf n found) (wordsIn bytes))) ≤ 10202
       by zero e =
           let ok = accepted bytes e in
-          report-short (wordsIn bytes) (layoutIn bytes) (ok .geometry) (file-blocks bytes ok)
+          report-short (wordsIn bytes) (layoutIn bytes) (ok .geometry) (file-most bytes ok .0)
       by (suc n) e =
           let most = number-most bytes in
           let short = refusal-short (suc n) (omega arith) .few in
           omega (arith, length-append (refusalLine (suc n)) [])
 
-  file-room : (image : List ℕ) → 8189 ≤ length image → room? (headerOf bytes) bytes image ≡ true
+  file-room : (image : List ℕ) → 8176 ≤ length image → room? (headerOf bytes) bytes image ≡ true
   unfolding headerOf
   file-room image h = by (fileRefusal bytes) refl
     where
       by : (n : ℕ) → fileRefusal bytes ≡ n → room? (headerIf n found) bytes image ≡ true
-      by zero e = le-leb (wordCount (length bytes)) (length image) (omega (arith, accepted bytes e .frame .most))
+      by zero e = le-leb (wordCount (length bytes)) (length image) (omega (arith, file-most bytes (accepted bytes e) .1))
       by (suc n) e = refl
 
--- with 8,189 words and 16,384 bytes lent, the report is there whole, from byte 0 on, and the bytes past it are as they were
+-- with 8,176 words and 10,202 bytes lent, the report is there whole, from byte 0 on, and the bytes past it are as they were
 pub report-whole : {bytes image out after printed : List ℕ} {next : ℕ} → Reports bytes image out next after printed
-    → 8189 ≤ length image
-    → 16384 ≤ length out
-    → page printed next ≡ page (endToEnd (reportOf bytes) ++ drop (length (endToEnd (reportOf bytes))) out) (length (endToEnd (reportOf bytes)))
+    → 8176 ≤ length image
+    → 10202 ≤ length out
+    → Inspects bytes out next printed
 report-whole {bytes} {image} {out} {after} {printed} {next} r h k =
     let text = endToEnd (reportOf bytes) in
     let short = file-short bytes in
+    let there : page printed next ≡ page (text ++ drop (length text) out) (length text) =
     r .prints
     ∙ ap (λ (b : Bool). cond b (writtenAll (reportOf bytes) (page out 0)) (page out 0)) (file-room bytes image h)
     ∙ all-fit (reportOf bytes) out 0 (omega arith)
-    ∙ ap (λ (n : ℕ). page (text ++ drop n out) n) (zero-add (length text))
+    ∙ ap (λ (n : ℕ). page (text ++ drop n out) n) (zero-add (length text)) in
+    record {
+      ends = ap (λ (p : Page). p .next) there;
+      whole = ap (λ (p : Page). take (p .next) (p .bytes)) there ∙ take-at text (drop (length text) out) (length text) refl;
+      past = ap (λ (p : Page). drop (p .next) (p .bytes)) there
+          ∙ drop-at text (drop (length text) out) (length text) refl
+          ∙ ap (λ (p : Page). drop (p .next) out) (sym there);
+    }

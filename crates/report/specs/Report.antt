@@ -1,11 +1,9 @@
 -- The program visits its copy of each block from 0 to N − 1 and prints the image line, a line for each block and the total line; or one line
 -- for a refusal. Assumes nothing.
 use Prim.Native.Nat.{ℕ, zero, suc}
-use mathlib.Core.Bool.{cond, Bool, true}
 use mathlib.Core.Path.{_≡_}
 use mathlib.Core.List.{List, [], _∷_, _++_}
-use lib.Dec.{leb}
-use lib.ListN.{length, drop}
+use lib.ListN.{length, take, drop}
 use Rattle.block.specs.declared.Verdict.{Verdict}
 use Rattle.block.specs.Verdict.{verdictOf}
 use Rattle.layout.specs.declared.Layout.{Layout}
@@ -14,10 +12,10 @@ use Rattle.store.specs.Image.{gathered}
 use Rattle.store.specs.Visit.{visitAfter}
 use Rattle.file.specs.declared.Header.{Header}
 use Rattle.file.specs.declared.Header.the-variants.{Refused, Image}
-use Rattle.file.specs.Bytes.{wordCount, wordsIn}
+use Rattle.file.specs.Bytes.{wordsIn}
 use Rattle.file.specs.Header.{headerOf}
 use Rattle.report.specs.declared.Tally.{Tally}
-use Rattle.text.specs.Page.{page, writtenAll}
+use Rattle.text.specs.Page.{endToEnd}
 use Rattle.report.specs.Lines.{refusalLine, imageLine, blockLine, totalLine, noBlocks, counted}
 
 -- ---- an image
@@ -57,20 +55,8 @@ reportFor (Image layout) words = imageReport words layout
 unfoldable pub reportOf : List ℕ → List (List ℕ)
 reportOf bytes = reportFor (headerOf bytes) (wordsIn bytes)
 
--- the lent image has room for the words, if there are any to copy
-abbrev pub room? : Header → List ℕ → List ℕ → Bool
-room? (Refused number) bytes image = true
-room? (Image layout) bytes image = leb (wordCount (length bytes)) (length image)
-
--- the lent image after the blocks were visited there; words past them, and an image with no room, are as they were
-abbrev pub visitedFor : Header → List ℕ → List ℕ → List ℕ
-visitedFor (Refused number) bytes image = image
-visitedFor (Image layout) bytes image =
-    cond (leb (wordCount (length bytes)) (length image))
-    (visitedBelow (wordsIn bytes) layout (blocks layout) ++ drop (wordCount (length bytes)) image)
-    image
-
--- the promise of inspect: the lines are written from byte 0 on, each that fits; where the image has no room, none is
-pub record Reports (bytes image out : List ℕ) (next : ℕ) (after printed : List ℕ) : Type 0 where
-  pub prints : page printed next ≡ cond (room? (headerOf bytes) bytes image) (writtenAll (reportOf bytes) (page out 0)) (page out 0)
-  pub leaves : after ≡ visitedFor (headerOf bytes) bytes image
+-- the promise of inspect: the bytes up to the end that it answers are the whole report, and those past it are as they were
+pub record Inspects (bytes out : List ℕ) (end : ℕ) (left : List ℕ) : Type 0 where
+  pub ends : end ≡ length (endToEnd (reportOf bytes))
+  pub whole : take end left ≡ endToEnd (reportOf bytes)
+  pub past : drop end left ≡ drop end out

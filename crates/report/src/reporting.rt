@@ -7,8 +7,9 @@ ghost use Rattle.layout.specs.Refusal.{imageRefusal};
 ghost use Rattle.file.specs.Bytes.{wordCount, wordsIn};
 ghost use Rattle.text.specs.Page.{page, writtenAll};
 ghost use Rattle.report.specs.Lines.{counted};
-ghost use Rattle.report.specs.Report.{visitedBelow, imageReport, Reports};
-ghost use Rattle.report.specs.Inner.{Countable};
+ghost use Rattle.report.specs.Report.{visitedBelow, imageReport, Inspects};
+ghost use Rattle.report.specs.Inner.{Countable, Reports};
+use super::REPORT_BYTES;
 use super::Tally;
 use super::lines::block_line;
 use super::lines::image_line;
@@ -18,6 +19,9 @@ use block::Verdict;
 use file::Header;
 use layout::Layout;
 use store::visit_accepted;
+
+// The most words that a file of 32,768 bytes holds: 511 blocks of 16 rows.
+const IMAGE_WORDS: usize = 8176;
 
 // A tally with one block more.
 fn count(tally: Tally, verdict: Verdict) -> Tally
@@ -74,7 +78,7 @@ fn report_copied(bytes: &[u8], image: &mut [u32], layout: Layout, out: &mut [u8]
 
 // Copies the words of a file to the lent image, visits each block there, and writes the report from byte 0 of `out` on; answers its end.
 // Of a file that is refused the report is that line; where the image has no room for its words there is none.
-pub fn inspect(bytes: &[u8], image: &mut [u32], out: &mut [u8]) -> usize
+fn report_file(bytes: &[u8], image: &mut [u32], out: &mut [u8]) -> usize
     ensures { λ r. ⌜ Reports (now (bytes .entry)) (now (image .entry)) (now (out .entry)) r (now (image .exit)) (now (out .exit)) ⌝ }
 {
     match file::read_header(bytes) {
@@ -87,4 +91,12 @@ pub fn inspect(bytes: &[u8], image: &mut [u32], out: &mut [u8]) -> usize
             report_copied(bytes, &mut image[..count], layout, out)
         }
     }
+}
+
+// Writes the whole report of a file, whatever its bytes, from byte 0 of `out` on; answers its end.
+pub fn inspect(bytes: &[u8], out: &mut [u8; REPORT_BYTES]) -> usize
+    ensures { λ r. ⌜ Inspects (now (bytes .entry)) (now (out .entry)) r (now (out .exit)) ⌝ }
+{
+    let mut image = [0u32; IMAGE_WORDS];
+    report_file(bytes, &mut image, out)
 }

@@ -3,27 +3,19 @@ use Prim.Native.Nat.{ℕ}
 use mathlib.Core.Path.{_≡_, ap}
 use mathlib.Core.List.{List}
 use Rattle.ground.proofs.Same.{same}
-use Rattle.text.specs.Text.{decimal}
-use Rattle.text.specs.Page.{Page, page, written}
+use Rattle.text.specs.Page.{Page, page}
+use Rattle.text.specs.Puts.{PutsText, PutsDecimal, PutsNamed}
 
 -- the same page is the same bytes and the same next place
 pub parted : {a b : List ℕ} {m n : ℕ} → page a m ≡ page b n → (a ≡ b) × (m ≡ n)
 parted e = (ap (λ (p : Page). p .bytes) e, ap (λ (p : Page). p .next) e)
 
-pub one-text : (text out a b : List ℕ) (at m n : ℕ)
-    → page a m ≡ written text (page out at)
-    → page b n ≡ written text (page out at)
-    → (a ≡ b) × (m ≡ n)
-one-text text out a b at m n p q = parted (same p q)
+module _ (out : List ℕ) (at : ℕ) {a b : List ℕ} {m n : ℕ} where
+  pub one-text : (text : List ℕ) → PutsText text out at a m → PutsText text out at b n → (a ≡ b) × (m ≡ n)
+  one-text text p q = parted (same p q)
 
-pub one-decimal : (number : ℕ) (out a b : List ℕ) (at m n : ℕ)
-    → page a m ≡ written (decimal number) (page out at)
-    → page b n ≡ written (decimal number) (page out at)
-    → (a ≡ b) × (m ≡ n)
-one-decimal number out a b at m n p q = parted (same p q)
+  pub one-decimal : (number : ℕ) → PutsDecimal number out at a m → PutsDecimal number out at b n → (a ≡ b) × (m ≡ n)
+  one-decimal number p q = parted (same p q)
 
-pub one-named : (text : List ℕ) (number : ℕ) (out a b : List ℕ) (at m n : ℕ)
-    → page a m ≡ written (decimal number) (written text (page out at))
-    → page b n ≡ written (decimal number) (written text (page out at))
-    → (a ≡ b) × (m ≡ n)
-one-named text number out a b at m n p q = parted (same p q)
+  pub one-named : (text : List ℕ) (number : ℕ) → PutsNamed text number out at a m → PutsNamed text number out at b n → (a ≡ b) × (m ≡ n)
+  one-named text number p q = parted (same p q)

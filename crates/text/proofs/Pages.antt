@@ -2,7 +2,6 @@
 use Prim.Native.Nat.{ℕ, _+_, _≤_, _<_}
 use mathlib.Core.Path.{_≡_, refl, sym, ap, ap₂, _∙_}
 use mathlib.Core.List.{List, [], _∷_, _++_, append-assoc, append-nil}
-use native.Mathlib.Decide.{decLt}
 use native.Mathlib.Nat.{add-zero}
 use native.Mathlib.Omega.{arith}
 use borrow.Author.Tests.{le-leb, lt-leb}
@@ -46,18 +45,6 @@ pub written-last : (lines : List (List ℕ)) (line : List ℕ) (p : Page) → wr
 unfolding writtenAll
 written-last [] line p = refl
 written-last (first ∷ lines) line p = written-last lines line (written first p)
-
--- the place stays within the bytes
-pub written-inside : (text : List ℕ) (p : Page) → p .next ≤ length (p .bytes) → written text p .next ≤ length (written text p .bytes)
-written-inside text p h = elim (decLt (length (p .bytes)) (p .next + length text)) [
-  | yes l ↦ rw (written-not text (p .bytes) (p .next) l) h
-  | no l ↦ rw (written-fits text (p .bytes) (p .next) (omega arith)) (omega (arith, length-over (p .bytes) (p .next) text (omega arith)))
-]
-
-pub all-inside : (lines : List (List ℕ)) (p : Page) → p .next ≤ length (p .bytes) → writtenAll lines p .next ≤ length (writtenAll lines p .bytes)
-unfolding writtenAll
-all-inside [] p h = h
-all-inside (line ∷ lines) p h = all-inside lines (written line p) (written-inside line p h)
 
 -- ---- lines that all fit are one text
 

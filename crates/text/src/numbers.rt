@@ -1,12 +1,10 @@
 // A number at the next place of a lent buffer; answers the place after it.
 // What does not fit is not written, and the place stays.
-ghost use mathlib.Core.Path.{_≡_};
-ghost use Rattle.text.specs.Text.{decimal};
-ghost use Rattle.text.specs.Page.{page, written};
+ghost use Rattle.text.specs.Puts.{PutsDecimal, PutsNamed};
 use super::texts::put_text;
 
 pub fn put_decimal(n: u32, out: &mut [u8], at: usize) -> usize
-    ensures { λ r. ⌜ page (now (out .exit)) r ≡ written (decimal n) (page (now (out .entry)) at) ⌝ }
+    ensures { λ r. ⌜ PutsDecimal n (now (out .entry)) at (now (out .exit)) r ⌝ }
 {
     // the last digit is found first
     let mut digits = [0u8; 10];
@@ -25,7 +23,7 @@ pub fn put_decimal(n: u32, out: &mut [u8], at: usize) -> usize
 
 // A text, and then a number.
 pub fn put_named(text: &[u8], n: u32, out: &mut [u8], at: usize) -> usize
-    ensures { λ r. ⌜ page (now (out .exit)) r ≡ written (decimal n) (written (now (text .entry)) (page (now (out .entry)) at)) ⌝ }
+    ensures { λ r. ⌜ PutsNamed (now (text .entry)) n (now (out .entry)) at (now (out .exit)) r ⌝ }
 {
     let next = put_text(text, out, at);
     put_decimal(n, out, next)

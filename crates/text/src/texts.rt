@@ -3,7 +3,8 @@
 ghost use mathlib.Core.Path.{_≡_};
 ghost use Prim.Native.Nat.{_+_, _≤_};
 ghost use lib.ListN.{length};
-ghost use Rattle.text.specs.Page.{page, over, written};
+ghost use Rattle.text.specs.Page.{over};
+ghost use Rattle.text.specs.Puts.{PutsText};
 
 // Puts a text at a place of a buffer that has room for it.
 fn copy_in(text: &[u8], out: &mut [u8], at: usize)
@@ -16,7 +17,7 @@ fn copy_in(text: &[u8], out: &mut [u8], at: usize)
 }
 
 pub fn put_text(text: &[u8], out: &mut [u8], at: usize) -> usize
-    ensures { λ r. ⌜ page (now (out .exit)) r ≡ written (now (text .entry)) (page (now (out .entry)) at) ⌝ }
+    ensures { λ r. ⌜ PutsText (now (text .entry)) (now (out .entry)) at (now (out .exit)) r ⌝ }
 {
     if out.len() < at {
         return at;

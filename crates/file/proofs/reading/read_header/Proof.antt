@@ -8,6 +8,7 @@ use Rattle.layout.specs.Layout.{layoutOf}
 use Rattle.file.specs.declared.Header.the-variants.{Image}
 use Rattle.file.specs.Bytes.{layoutIn}
 use Rattle.file.specs.Refusal.{frameRefusal, fileRefusal}
+use Rattle.file.proofs.Headers.{header-read}
 use Rattle.file.proofs.Ladder.{framed, frame-stands, frame-passed, header-refused, header-image}
 use Rattle.file.proofs.reading.read_header.Statement.{statement}
 use Rattle.file.proofs.reading.read_header.Tie as tie
@@ -49,7 +50,7 @@ check-frame-requires : tie.Need-check-frame-requires
 check-frame-requires c κs = search needs
 
 returns : tie.Need-returns
-returns c = header-refused _ _ (frame-stands _ _ (c .before .check-frame .ensures) (c .if1 .taken)) (c .if1 .taken)
+returns c = header-read _ _ (header-refused _ _ (frame-stands _ _ (c .before .check-frame .ensures) (c .if1 .taken)) (c .if1 .taken))
 
 shared-slice-read-wide : tie.Need-shared-slice-read-wide
 shared-slice-read-wide c = omega (arith, whole (c .before))
@@ -79,10 +80,10 @@ check-body-requires : tie.Need-check-body-requires
 check-body-requires c κs = search needs
 
 returns-2 : tie.Need-returns-2
-returns-2 c = header-refused _ _ (refusal (c .before)) (c .if2 .taken)
+returns-2 c = header-read _ _ (header-refused _ _ (refusal (c .before)) (c .if2 .taken))
 
 returns-3 : tie.Need-returns-3
-returns-3 c = ap Image (read (c .before .before)) ∙ header-image _ (refusal (c .before) ∙ c .if2 .left)
+returns-3 c = header-read _ _ (ap Image (read (c .before .before)) ∙ header-image _ (refusal (c .before) ∙ c .if2 .left))
 
 pub read-header-spec : {M : Type 1} → statement M
 read-header-spec =

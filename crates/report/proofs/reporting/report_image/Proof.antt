@@ -13,6 +13,7 @@ use Rattle.layout.specs.Layout.{blocks}
 use Rattle.layout.proofs.Ladder.{geometry, image-layout}
 use Rattle.store.specs.Answer.{verdictIn}
 use Rattle.store.specs.Visit.{visitAnswer, visitAfter}
+use Rattle.store.proofs.Promises.{accepted-verdict}
 use Rattle.report.specs.declared.Tally.{Tally}
 use Rattle.report.specs.Lines.{imageLine, blockLine, totalLine, counted}
 use Rattle.report.specs.Report.{verdictAt, imageReport, visitedBelow, blockLines, tallyBelow}
@@ -93,7 +94,7 @@ found : (c : tie.After-visit-accepted Inv-loop μ-loop) → c .visit-accepted .r
 found c =
     let at = turn c .before in
     let k = at .loop .k in
-    c .visit-accepted .ensures .says
+    accepted-verdict _ _ _ (c .visit-accepted .ensures)
     ∙ ap (λ (image : List ℕ). verdictIn (answers (start at) image k)) (at .loop .inv .1)
     ∙ finds (start at) k (omega (arith, turn c .loop-test .taken, known at .blocks2 .ensures))
 
