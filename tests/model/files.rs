@@ -116,6 +116,13 @@ fn sample() -> Vec<u8> {
     file::file_of(1, 1, 1, &image)
 }
 
+/// The file with the longest report: as many blocks as fit, each with its last row flipped in every lane.
+fn longest_report() -> Vec<u8> {
+    let blocks = (LONGEST - 9) / (4 * block::rows(1));
+    let image: Vec<u32> = (0..blocks * block::rows(1)).map(|k| if (k + 1) % block::rows(1) == 0 { u32::MAX } else { 0 }).collect();
+    file::file_of(1, 1, blocks as u32, &image)
+}
+
 fn any_file(r: &mut Random) -> Vec<u8> {
     match r.below(100) {
         0..=39 => valid_file(r),
@@ -127,11 +134,15 @@ fn any_file(r: &mut Random) -> Vec<u8> {
     }
 }
 
-/// So many files from a seed, as DIR/K.image and DIR/K.expected; the first is the specification's sample.
+/// So many files from a seed, as DIR/K.image and DIR/K.expected; the first is the specification's sample, the second has the longest report.
 pub fn write(seed: u64, count: u64, dir: &str) -> io::Result<()> {
     let mut r = Random::new(seed);
     for k in 0..count {
-        let bytes = if k == 0 { sample() } else { any_file(&mut r) };
+        let bytes = match k {
+            0 => sample(),
+            1 => longest_report(),
+            _ => any_file(&mut r),
+        };
         fs::write(format!("{dir}/{k}.image"), &bytes)?;
         fs::write(format!("{dir}/{k}.expected"), file::inspect(&bytes))?;
     }

@@ -1,6 +1,7 @@
 -- Demand 3, a and b: the turns and the asks of the store are those of its rota. Assumes nothing.
 use Prim.Native.Nat.{ℕ, _+_, _≤_, _<_}
 use mathlib.Core.Path.{_≡_, refl, sym, ap, ap₂, _∙_}
+use native.Mathlib.Omega.{arith}
 use mathlib.Core.List.{List, [], _∷_, _++_, append-assoc, append-nil}
 use native.Mathlib.Nat.{one-le-mul}
 use lib.ListN.{length}
@@ -151,10 +152,12 @@ module _ (image : List ℕ) (layout : Layout) (fits : imageRefusal (length image
       rw (report-after (before ++ ask block ∷ between) all, parts-append before (ask block ∷ between) (fresh image layout), two) refl
 
 pub turns-accepted : (image : List ℕ) (layout : Layout) → TurnsAccepted image layout
-turns-accepted = accepted
+turns-accepted image layout formatted before none = accepted image layout (omega (arith, formatted)) before none
 
 pub every-block-visited : (image : List ℕ) (layout : Layout) → EveryBlockVisited image layout
-every-block-visited = visited
+unfolding turns
+every-block-visited image layout formatted before during none enough block inside =
+    visited image layout (omega (arith, formatted)) before during none (omega (arith, enough)) block inside
 
 pub asks-served : (image : List ℕ) (layout : Layout) → AskServed image layout
 asks-served image layout before between block place all e t =

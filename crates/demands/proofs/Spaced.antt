@@ -10,7 +10,7 @@ use Rattle.layout.proofs.Ladder.{geometry, image-layout}
 use Rattle.rota.specs.Patrol.{Spaced}
 use Rattle.rota.specs.Steps.{other}
 use Rattle.rota.specs.Touches.{flip as flips}
-use Rattle.demands.specs.Steps.{Step, flip, fresh, stepAfter, after}
+use Rattle.demands.specs.Steps.{Step, flip, fresh, stepAfter, after, turns}
 use Rattle.demands.specs.Demand3.{RowOf, FlipsSpaced}
 use Rattle.demands.proofs.Index.{blockAt, rowAt, row-below, index-at}
 use Rattle.demands.proofs.Parts.{parts-turns, whole-step}
@@ -24,6 +24,7 @@ module _ (image : List ℕ) (layout : Layout) (fits : imageRefusal (length image
       (suc (rowAt layout at), omega arith, row-below layout at, sym (index-at layout first at))
 
   pub parts-spaced : (steps : List Step) → FlipsSpaced image layout steps → Spaced (memory (length image) layout fits) (partsOf image layout steps)
+  unfolding turns
   parts-spaced steps spaced pre mid post f h e same =
       let start = fresh image layout in
       let later = whole-step (other (flips h)) (flip (h .0) (h .1)) refl steps start (pre ++ other (flips f) ∷ mid) post e in
@@ -33,7 +34,7 @@ module _ (image : List ℕ) (layout : Layout) (fits : imageRefusal (length image
       later .split
       ∙ ap (λ (l : List Step). l ++ flip (h .0) (h .1) ∷ later .tail)
       (earlier .split ∙ ap (λ (u : ℕ × ℕ). earlier .front ++ flip (f .0) (u .1) ∷ earlier .tail) same) in
-      rw (← earlier .tail-is, parts-turns (earlier .tail) between)
-      (spaced (earlier .front) (earlier .tail) (later .tail) (f .0) (h .0) (h .1) (blockAt layout (h .0)) whole
+      let enough = spaced (earlier .front) (earlier .tail) (later .tail) (f .0) (h .0) (h .1) (blockAt layout (h .0)) whole
       (subst (λ (block : ℕ). RowOf layout block (f .0)) (ap (λ (u : ℕ × ℕ). u .0) same) (row-of (f .0)))
-      (row-of (h .0)))
+      (row-of (h .0)) in
+      rw (← earlier .tail-is, parts-turns (earlier .tail) between) (omega (arith, enough))
