@@ -154,7 +154,8 @@ module _ (image : List ℕ) (layout : Layout) where
         found .1,
         found .2,
         λ now r number words after said c.
-            ap (λ (l : List ℕ). getD l 0 0) (reported (before ++ found .0) now r number words after said c .1) ∙ patrol-named block (report (store image layout (before ++ found .0))) (found .3),
+            ap (λ (l : List ℕ). getD l 0 0) (reported (before ++ found .0) now r number words after said c .1)
+            ∙ patrol-named block (report (store image layout (before ++ found .0))) (found .3),
       )
 
   -- a place that an accepted ask gives

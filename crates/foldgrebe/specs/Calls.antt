@@ -36,7 +36,8 @@ pub record ReadCall (image : List ℕ) (layout : Layout) (block : ℕ) (buffer :
   pub answers : number ≡ dataRefusal (length image) layout block (length buffer)
   pub keeps : kept ≡ image
   pub leaves : after ≡ readBuffer image layout block buffer
-  pub says : verdict ≡ saidWords (ifZero (dataRefusal (length image) layout block (length buffer)) (toSay (shapeOf layout) (gathered layout block image)) unsaid)
+  pub says : verdict
+      ≡ saidWords (ifZero (dataRefusal (length image) layout block (length buffer)) (toSay (shapeOf layout) (gathered layout block image)) unsaid)
 
 -- visit
 pub record VisitCall (image : List ℕ) (layout : Layout) (block number : ℕ) (after verdict : List ℕ) : Type 0 where

@@ -132,7 +132,8 @@ module _ (r : Record) (image : List ℕ) where
         leaves = leaves refused late waiting;
       }
     where
-      first : (number later : ℕ) (l : List ℕ) → reportFirst (turnedWith number later l .report) ≡ ifZero (number then later) (seenIn (r .layout) image next) unseen
+      first : (number later : ℕ) (l : List ℕ)
+          → reportFirst (turnedWith number later l .report) ≡ ifZero (number then later) (seenIn (r .layout) image next) unseen
       first zero zero [] = said-seen image next
       first zero zero (a ∷ l) = said-seen image next
       first zero (suc later) l = refl

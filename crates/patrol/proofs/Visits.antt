@@ -39,9 +39,9 @@ module _ (layout : Layout) (image : List ℕ) (due : Due) (ready : Ready layout 
     one-visited e = rw e (ap (One first) (saw (inside (OneDue first) e .inside refl .0)), met .leaves)
 
     -- the first visit leaves the image's length
-    pub two-visited : (second : ℕ) → due ≡ TwoDue first second → (w : Verdict) (after : List ℕ) → VisitsAccepted between layout second w after
+    pub two-visited : (second : ℕ) (w : Verdict) (after : List ℕ) → VisitsAccepted between layout second w after → due ≡ TwoDue first second
         → (Two first v second w ≡ reported layout image due) × (after ≡ patrolled layout image due)
-    two-visited second e w after also =
+    two-visited second w after also e =
         let below = inside (TwoDue first second) e .inside refl in
         let size : length between ≡ length image = ap length (met .leaves) ∙ visit-untouched image layout first .size in
         let fine : blockRefusal (length between) layout second ≡ 0 = rw size (block-accepted layout (length image) second (ready .passed) (below .1)) in

@@ -44,7 +44,7 @@ returns-3 c =
     let also = c .before .before in
     let met = also .before .before .before .before in
     let told = met .before .before .before in
-    two-visited _ _ _ (told .before .before .before .pre) _ _ _ (met .visit-accepted2 .ensures) _ (told .due3 .given .1) _ _ (also .visit-accepted3 .ensures)
+    two-visited _ _ _ (told .before .before .before .pre) _ _ _ (met .visit-accepted2 .ensures) _ _ _ (also .visit-accepted3 .ensures) (told .due3 .given .1)
 
 pub visit-due-spec : {M : Type 1} → statement M
 visit-due-spec =

@@ -65,7 +65,8 @@ returns-2 c =
     let said = c .before .before in
     let rows = decided said in
     let exact = gathers rows in
-    read-lost _ (site (exact .before .before)) _ (rows .gather .ensures) _ (says-verdict _ _ (said .decide .ensures .says)) _ (fits exact) _ (c .enum-told .given .1)
+    read-lost _ (site (exact .before .before)) _ (rows .gather .ensures) _ (says-verdict _ _ (said .decide .ensures .says)) _ (fits exact) _
+    (c .enum-told .given .1)
 
 data-into-requires : tie.Need-data-into-requires
 data-into-requires c κs = search needs
@@ -87,7 +88,8 @@ returns-4 c =
     let rows = decided said in
     let exact = gathers rows in
     let mends = said .decide .ensures in
-    read-data _ (site (exact .before .before)) _ (rows .gather .ensures) _ (says-verdict _ _ (mends .says)) _ (fits exact) (not-lost .match2 .keys2) _ _ (mends .leaves)
+    read-data _ (site (exact .before .before)) _ (rows .gather .ensures) _ (says-verdict _ _ (mends .says)) _ (fits exact) (not-lost .match2 .keys2) _ _
+    (mends .leaves)
     (c .before .before .data-into .ensures)
 
 pub read-spec : {M : Type 1} → statement M
