@@ -1,24 +1,22 @@
 -- The two tables of data rows, once: what is used of them follows from what they are. Assumes nothing.
-use Prim.Native.Nat.{ℕ, _-_, _≤_}
+use Prim.Native.Nat.{ℕ, _-_}
 use mathlib.Core.Bool.{Bool, not}
-use mathlib.Core.Path.{_≡_, refl, sym, ap, _∙_}
+use mathlib.Core.Path.{_≡_, refl, ap, _∙_}
 use mathlib.Core.List.{List, [], _∷_}
-use native.Mathlib.Omega.{arith}
 use lib.ListN.{length, getD}
 use Rattle.lane.specs.Rows.{power?, rowsWhere}
 use Rattle.lane.proofs.Rows.{row-passes, row-there, rows-rise, data-row, data-fails}
 use Rattle.ground.specs.Stores.{stores}
 use Rattle.shape.specs.declared.Shape.{Shape}
 use Rattle.shape.specs.declared.Shape.the-variants.{One, Two}
-use Rattle.shape.specs.Shape.{before, digits, dataRowsOf, words, mostRows}
-use Rattle.shape.proofs.Sizes.{before-lt}
+use Rattle.shape.specs.Shape.{before, digits, dataRowsOf, words}
 use Rattle.block.specs.Words.{row}
 use Rattle.block.specs.Block.{blank, dataBlock, dataInto}
-use Rattle.block.specs.Inner.{Listed, copiedInto}
+use Rattle.block.specs.Inner.{copiedInto}
 use Rattle.block.specs.DataTables.{DataTable}
 use Rattle.block.proofs.Data.{before-digits, data-count}
 
--- the tables of the code
+-- the tables of the code: a proof that cites one of them is refused where the code has another
 abbrev pub dataOne : List ℕ
 dataOne =
     3 ∷ 5 ∷ 6 ∷ 7 ∷ 9 ∷ 10 ∷ 11 ∷ 12 ∷ 13 ∷ 14 ∷ 15 ∷ []
@@ -51,9 +49,6 @@ data-two = rows-table Two
 -- ---- what the functions use of a table
 
 module _ {shape : Shape} {table : List ℕ} (t : DataTable shape table) where
-  pub table-listed : Listed mostRows table
-  table-listed k h = let d = t .rows k h in (d .first, omega (arith, d .last, before-lt shape))
-
   table-count : length table ≡ words shape
   table-count = ap length (t .is) ∙ data-count shape
 

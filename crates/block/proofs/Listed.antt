@@ -1,13 +1,38 @@
--- The rule of the tables of rows: each is, by computing, a list of the rows that pass a test, and so its entries are rows. Assumes nothing.
-use Prim.Native.Nat.{ℕ, _≤_}
-use mathlib.Core.Bool.{Bool}
+-- The rule of the tables of rows: each is, by computing, a list of the rows that pass a test, and so its entries are rows. That a list holds
+-- rows, and that it rises, can also be computed of the list itself. Assumes nothing.
+use Prim.Native.Nat.{ℕ, zero, suc, _≤_, _<_}
+use mathlib.Core.Bool.{Bool, true, _&&_}
+use mathlib.Core.Path.{_≡_}
+use mathlib.Core.List.{List, [], _∷_}
 use native.Mathlib.Omega.{arith}
-use Rattle.lane.specs.Rows.{rowsWhere}
-use Rattle.lane.proofs.Rows.{row-passes, rows-rise}
-use Rattle.block.specs.Inner.{Listed, Rising}
+use borrow.Author.Tests.{leb-true, ltb-true}
+use lib.Dec.{leb, ltb}
+use lib.ListN.{length, getD}
+use Rattle.lane.specs.Rows.{rowsWhere, Rising}
+use Rattle.lane.proofs.Rows.{row-passes}
+use Rattle.ground.proofs.Bools.{both}
+use Rattle.block.specs.Inner.{Listed, listed?, above?, rising?}
 
 pub rows-listed : (test : ℕ → Bool) (n m : ℕ) → n ≤ m → Listed m (rowsWhere test n)
 rows-listed test n m h k l = let r = row-passes test n k l in (r .0, omega (arith, r .1))
 
-pub rows-rising : (test : ℕ → Bool) (n : ℕ) → Rising (rowsWhere test n)
-rows-rising test n = rows-rise test n
+pub listed : (n : ℕ) (l : List ℕ) → listed? n l ≡ true → Listed n l
+unfolding listed?
+listed n [] t k h = absurd (omega arith)
+listed n (p ∷ l) t zero h =
+    let here = both (leb 1 p) (leb p n) (both (leb 1 p && leb p n) (listed? n l) t .0) in
+    (leb-true 1 p (here .0), leb-true p n (here .1))
+listed n (p ∷ l) t (suc k) h = listed n l (both (leb 1 p && leb p n) (listed? n l) t .1) k (omega arith)
+
+above : (p : ℕ) (l : List ℕ) → above? p l ≡ true → (k : ℕ) → k < length l → p < getD l k 0
+unfolding above?
+above p [] t k h = absurd (omega arith)
+above p (q ∷ l) t zero h = ltb-true p q (both (ltb p q) (above? p l) t .0)
+above p (q ∷ l) t (suc k) h = above p l (both (ltb p q) (above? p l) t .1) k (omega arith)
+
+pub rising : (l : List ℕ) → rising? l ≡ true → Rising l
+unfolding rising?
+rising [] t j k h i = absurd (omega arith)
+rising (p ∷ l) t j zero h i = absurd (omega arith)
+rising (p ∷ l) t zero (suc k) h i = above p l (both (above? p l) (rising? l) t .0) k (omega arith)
+rising (p ∷ l) t (suc j) (suc k) h i = rising l (both (above? p l) (rising? l) t .1) j k (omega arith) (omega arith)

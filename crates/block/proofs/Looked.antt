@@ -19,10 +19,11 @@ use Rattle.block.specs.declared.Verdict.the-variants.{Clean, Mended, Los
 use Rattle.block.specs.declared.sums.Sums.{Sums}
 use Rattle.shape.specs.Shape.{before, rows}
 use Rattle.ground.specs.Lists.{listOf}
-use Rattle.block.specs.Verdict.{clean?, verdictOf, validFrom}
+use Rattle.block.specs.Verdict.{verdictNumber, Said, toSay, verdictOf, validFrom}
 use Rattle.block.specs.Inner.{sumsOf, sumWords, anyOf, lostLanes}
 use Rattle.ground.proofs.Bools.{both}
 use Rattle.block.proofs.Lanes.{xor-parts}
+use Rattle.block.proofs.Verdicts.{verdict-says}
 use Rattle.block.proofs.Judged.{clean-verdict, lost-verdict, mended-verdict}
 
 -- ---- the lanes in which a word is set
@@ -44,6 +45,13 @@ parity-is : (shape : Shape) (block : List ℕ) → bitXor (getD (sumWords shape 
 unfolding rowsWhere bit
 parity-is One block = xor-parts (λ p. true) (bit 0) 16 block
 parity-is Two block = xor-parts (λ p. true) (bit 0) 72 block
+
+-- does a verdict say clean
+abbrev clean? : Verdict → Bool
+clean? v = eqb (verdictNumber v) 1
+
+said-clean : (shape : Shape) (block : List ℕ) → clean? (verdictOf shape block) ≡ eqb (toSay shape block .verdict) 1
+said-clean shape block = ap (λ (s : Said). eqb (s .verdict) 1) (verdict-says shape block)
 
 module _ (shape : Shape) (block : List ℕ) where
   abbrev sums : List ℕ
@@ -109,8 +117,8 @@ module _ (shape : Shape) (block : List ℕ) where
         by true e = ap clean? (mended-verdict shape block parity-lt any-lt fit (eqb-true _ 0 e) (λ z. some (heard z)))
         by false e = ap clean? (lost-verdict shape block parity-lt any-lt fit (eqb-false _ 0 e))
 
-    pub found-clean : eqb (anyOf 8 sums) 0 ≡ clean? (verdictOf shape block)
-    found-clean = by (eqb (anyOf 8 sums) 0) refl
+    pub found-clean : eqb (anyOf 8 sums) 0 ≡ eqb (toSay shape block .verdict) 1
+    found-clean = by (eqb (anyOf 8 sums) 0) refl ∙ said-clean shape block
       where
         by : (t : Bool) → eqb (anyOf 8 sums) 0 ≡ t → t ≡ clean? (verdictOf shape block)
         by true e = ap clean? (clean-verdict shape block parity-lt any-lt fit (quiet (eqb-true _ 0 e)))
@@ -119,7 +127,7 @@ module _ (shape : Shape) (block : List ℕ) where
 -- ---- what it tells that a valid block is there
 
 module _ (shape : Shape) (at : ℕ) (words : List ℕ) (there : validFrom shape at words ≡ true) where
-  halves : (leb (at + rows shape) (length words) ≡ true) × (clean? (verdictOf shape (drop at words)) ≡ true)
+  halves : (leb (at + rows shape) (length words) ≡ true) × (eqb (toSay shape (drop at words) .verdict) 1 ≡ true)
   unfolding validFrom
   halves = both _ _ there
 
@@ -132,4 +140,4 @@ module _ (shape : Shape) (at : ℕ) (words : List ℕ) (there : validFrom shape 
   clean-is (Lost m) e = absurd (true≢false (sym e))
 
   pub valid-clean : Clean ≡ verdictOf shape (drop at words)
-  valid-clean = clean-is _ (halves .1)
+  valid-clean = clean-is _ (said-clean shape (drop at words) ∙ halves .1)

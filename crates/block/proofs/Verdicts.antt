@@ -7,7 +7,7 @@ use Rattle.block.specs.declared.Verdict.{Verdict}
 use Rattle.block.specs.declared.Verdict.the-variants.{Clean, Mended, Lost}
 use Rattle.shape.specs.declared.Shape.{Shape}
 use Rattle.block.specs.Block.{lanesLost, bitsChanged, mendedBlock}
-use Rattle.block.specs.Verdict.{verdictNumber, verdictCount, Said, saidOf, saidBy, toSay, unsaid, verdictWords, noVerdict, verdict, verdictOf, Decides}
+use Rattle.block.specs.Verdict.{verdictNumber, verdictCount, Said, saidOf, saidBy, toSay, unsaid, verdict, verdictOf, Decides}
 
 pub verdict-some : (v : Verdict) → verdictNumber v ≡ 0 → ⊥
 verdict-some Clean e = omega arith
@@ -31,13 +31,6 @@ said-told a b e = verdicts-told a b (ap (λ (s : Said). s .verdict) e) (ap (λ (
 
 pub said-some : (v : Verdict) → saidOf v ≡ unsaid → ⊥
 said-some v e = verdict-some v (ap (λ (s : Said). s .verdict) e)
-
--- by their words
-pub verdict-words-told : (a b : Verdict) → verdictWords a ≡ verdictWords b → a ≡ b
-verdict-words-told a b e = verdicts-told a b (cc) (cc)
-
-pub verdict-words-some : (v : Verdict) → verdictWords v ≡ noVerdict → ⊥
-verdict-words-some v e = verdict-some v (cc)
 
 -- ---- the verdict of a block says what is to be said of it, and no other does
 

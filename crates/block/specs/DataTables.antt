@@ -3,10 +3,9 @@ use Prim.Native.Nat.{ℕ, _<_}
 use mathlib.Core.Path.{_≡_}
 use mathlib.Core.List.{List}
 use lib.ListN.{length, getD}
-use Rattle.lane.specs.Rows.{DataRow}
+use Rattle.lane.specs.Rows.{DataRow, Rising}
 use Rattle.shape.specs.declared.Shape.{Shape}
 use Rattle.shape.specs.Shape.{before, dataRowsOf}
-use Rattle.block.specs.Inner.{Rising}
 
 pub record DataTable (shape : Shape) (table : List ℕ) : Type 0 where
   pub is : table ≡ dataRowsOf shape

@@ -1,11 +1,11 @@
 -- What the code computes on its way, 32 lanes at once: a word for each digit of the lanes' sums. Assumes nothing.
 use Prim.Native.Nat.{ℕ, zero, suc, _+_, _-_, _^_, _≤_, _<_}
-use mathlib.Core.Bool.{Bool, not, cond, _&&_}
+use mathlib.Core.Bool.{Bool, true, not, cond, _&&_}
 use mathlib.Core.Path.{_≡_}
 use mathlib.Core.List.{List, [], _∷_}
 use lib.ListN.{length, getD, drop}
 use lib.Bits.{bitXor, bitAnd, bitOr}
-use lib.Dec.{eqb}
+use lib.Dec.{eqb, leb, ltb}
 use Rattle.lane.specs.Bit.{bit}
 use Rattle.lane.specs.Rows.{rowsWhere, covered, allRows}
 use Rattle.shape.specs.declared.Shape.{Shape}
@@ -19,9 +19,18 @@ use Rattle.block.specs.Words.{row, number, word}
 abbrev pub Listed : ℕ → List ℕ → Type 0
 Listed n list = (k : ℕ) → k < length list → (1 ≤ getD list k 0) × (getD list k 0 ≤ n)
 
--- a list goes from row to a later row
-abbrev pub Rising : List ℕ → Type 0
-Rising list = (j k : ℕ) → j < k → k < length list → getD list j 0 < getD list k 0
+-- the same as a test, and the test that a list rises: each entry is below those after it
+unfoldable pub listed? : ℕ → List ℕ → Bool
+listed? n [] = true
+listed? n (p ∷ l) = (leb 1 p && leb p n) && listed? n l
+
+unfoldable pub above? : ℕ → List ℕ → Bool
+above? p [] = true
+above? p (q ∷ l) = ltb p q && above? p l
+
+unfoldable pub rising? : List ℕ → Bool
+rising? [] = true
+rising? (p ∷ l) = above? p l && rising? l
 
 -- the exclusive or of the words of the listed rows
 unfoldable pub xorOver : List ℕ → List ℕ → ℕ

@@ -1,10 +1,10 @@
 -- Clean 0: block valid, nothing changed. Mended m: no lane lost, m bits changed. Lost m: m lanes are lost.
 -- The verdicts are numbered 1 clean, 2 mended, 3 lost. Assumes nothing.
 use Prim.Native.Nat.{ℕ, zero, suc, _+_}
-use mathlib.Core.Bool.{Bool, true, false, _&&_}
+use mathlib.Core.Bool.{Bool, _&&_}
 use mathlib.Core.List.{List, [], _∷_}
 use mathlib.Core.Path.{_≡_}
-use lib.Dec.{leb}
+use lib.Dec.{leb, eqb}
 use lib.ListN.{length, drop}
 use Rattle.shape.specs.declared.Shape.{Shape}
 use Rattle.block.specs.declared.Verdict.{Verdict}
@@ -60,6 +60,14 @@ pub record Decides (shape : Shape) (block : List ℕ) (found : Verdict) (after :
   pub says : saidOf found ≡ toSay shape block
   pub leaves : after ≡ mendedBlock shape block
 
+-- do the words from `at` on begin with a block that is all there and of which 1, clean, is to be said
+unfoldable pub validFrom : Shape → ℕ → List ℕ → Bool
+validFrom shape at words = leb (at + rows shape) (length words) && eqb (toSay shape (drop at words) .verdict) 1
+
+-- the promise of valid
+abbrev pub TellsValid : Shape → List ℕ → ℕ → Bool → Type 0
+TellsValid shape words at answer = answer ≡ validFrom shape at words
+
 -- ---- the verdict itself, as callers use it
 
 -- by the lanes lost and the bits changed
@@ -70,16 +78,3 @@ verdict (suc l) m = Lost (suc l)
 
 unfoldable pub verdictOf : Shape → List ℕ → Verdict
 verdictOf shape block = verdict (lanesLost shape block) (bitsChanged shape block (mendedBlock shape block))
-
-abbrev pub clean? : Verdict → Bool
-clean? Clean = true
-clean? (Mended m) = false
-clean? (Lost m) = false
-
--- do the words from `at` on begin with a block that is all there and valid
-unfoldable pub validFrom : Shape → ℕ → List ℕ → Bool
-validFrom shape at words = leb (at + rows shape) (length words) && clean? (verdictOf shape (drop at words))
-
--- the promise of valid
-abbrev pub TellsValid : Shape → List ℕ → ℕ → Bool → Type 0
-TellsValid shape words at answer = answer ≡ validFrom shape at words

@@ -1,11 +1,12 @@
 // The valid block for a list of data words, and the data words of a block.
+ghost use mathlib.Core.Bool.{true};
 ghost use mathlib.Core.Path.{_≡_};
 ghost use Prim.Native.Nat.{_-_, _<_};
 ghost use lib.ListN.{length, getD};
 ghost use Rattle.ground.specs.Stores.{stores};
 ghost use Rattle.shape.specs.Shape.{mostRows};
 ghost use Rattle.block.specs.Block.{blank, dataBlock, Encodes, CopiesData};
-ghost use Rattle.block.specs.Inner.{Listed, Rising, copiedInto, xorAll, withChecks};
+ghost use Rattle.block.specs.Inner.{listed?, rising?, copiedInto, xorAll, withChecks};
 use super::sums::lane_sums;
 use super::tables::*;
 use ground::least;
@@ -15,7 +16,7 @@ use shape::rows_before;
 
 // The data words in the listed rows, in order, and zero elsewhere.
 fn spread(rows: &[u8], list: &[u32]) -> [u32; MOST_ROWS]
-    requires { ⌜ Listed mostRows (now rows) × Rising (now rows) ⌝ }
+    requires { ⌜ (listed? mostRows (now rows) ≡ true) × (rising? (now rows) ≡ true) ⌝ }
     ensures { λ r. ⌜ r ≡ stores blank (λ k. getD (now (rows .entry)) k 0 - 1) (λ k. getD (now (list .entry)) k 0) (length (now (rows .entry))) ⌝ }
 {
     let n = least(rows.len(), list.len());
@@ -80,7 +81,7 @@ pub fn encode(shape: Shape, list: &[u32]) -> [u32; MOST_ROWS]
 
 // Copies the words of the listed rows, in order, as many as the buffer has room for.
 fn copy_rows(rows: &[u8], block: &[u32; MOST_ROWS], buffer: &mut [u32])
-    requires { ⌜ Listed mostRows (now rows) ⌝ }
+    requires { ⌜ listed? mostRows (now rows) ≡ true ⌝ }
     ensures { λ r. ⌜ now (buffer .exit) ≡ copiedInto (now (rows .entry)) (now (block .entry)) (now (buffer .entry)) ⌝ }
 {
     let n = least(rows.len(), buffer.len());

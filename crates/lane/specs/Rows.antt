@@ -1,10 +1,11 @@
 -- The check rows are the last row and those whose number is a power of two; the others are the data rows, lowest first.
 -- The last row covers all rows; check row 2^k covers the rows below the last whose number has digit k. Assumes nothing.
-use Prim.Native.Nat.{ℕ, zero, suc, _^_, _≤_}
+use Prim.Native.Nat.{ℕ, zero, suc, _^_, _≤_, _<_}
 use mathlib.Core.Bool.{Bool, true, false, not, cond, _||_}
 use mathlib.Core.Path.{_≡_}
 use mathlib.Core.List.{List, [], _∷_, _++_}
 use lib.Dec.{eqb}
+use lib.ListN.{length, getD}
 use Rattle.lane.specs.Bit.{bit}
 
 -- is p one of 1, 2, 4, .. below 2^k
@@ -17,6 +18,10 @@ pub record DataRow (m p : ℕ) : Type 0 where
   pub first : 1 ≤ p
   pub last : p ≤ m
   pub no-power : (k : ℕ) → p ≡ 2 ^ k → ⊥
+
+-- a list goes from row to a later row
+abbrev pub Rising : List ℕ → Type 0
+Rising list = (j k : ℕ) → j < k → k < length list → getD list j 0 < getD list k 0
 
 -- those of the rows 1 to n that pass a test, lowest first
 unfoldable pub rowsWhere : (ℕ → Bool) → ℕ → List ℕ

@@ -12,6 +12,7 @@ use Rattle.ground.specs.Stores.{stores}
 use Rattle.block.specs.Inner.{copiedInto}
 use Rattle.block.proofs.WordBits.{row-at}
 use Rattle.ground.proofs.Smaller.{least-of}
+use Rattle.block.proofs.Listed.{listed}
 use Rattle.block.proofs.coding.copy_rows.Statement.{statement}
 use Rattle.block.proofs.coding.copy_rows.Tie as tie
 
@@ -31,7 +32,7 @@ abbrev copied : tie.In-loop Inv-loop μ-loop → ℕ
 copied c = getD (start (c .before .before) .args .rows .now) (c .before .loop .k) 0
 
 there : (c : tie.In-loop Inv-loop μ-loop) → (1 ≤ copied c) × (copied c ≤ 72)
-there c = start (c .before .before) .pre (c .before .loop .k) (omega (arith, c .loop-test .taken, c .before .loop .inv .1))
+there c = listed 72 _ (start (c .before .before) .pre) (c .before .loop .k) (omega (arith, c .loop-test .taken, c .before .loop .inv .1))
 
 least-requires : tie.Need-least-requires Inv-loop μ-loop
 least-requires c κs = search needs

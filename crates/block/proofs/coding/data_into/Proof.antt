@@ -1,11 +1,12 @@
 -- `block::coding::data_into` meets its contract: its tables are those of the data rows of each shape. Assumes nothing.
 use Prim.Native.Nat.{ℕ}
 use mathlib.Core.List.{List}
-use mathlib.Core.Path.{_≡_, sym, ap, _∙_}
+use mathlib.Core.Path.{_≡_, refl, sym, ap, _∙_}
 use borrow.Author.Needs.{needs}
 use Rattle.shape.specs.declared.Shape.{Shape}
 use Rattle.block.specs.Block.{dataInto}
-use Rattle.block.proofs.DataTables.{data-one, data-two, table-listed, table-copied}
+use Rattle.block.specs.Inner.{listed?}
+use Rattle.block.proofs.DataTables.{data-one, data-two, table-copied}
 use Rattle.block.proofs.coding.data_into.Statement.{statement}
 use Rattle.block.proofs.coding.data_into.Tie as tie
 
@@ -27,7 +28,8 @@ slice-aggregate-copy-rows : tie.Need-slice-aggregate-copy-rows
 slice-aggregate-copy-rows c = search needs
 
 copy-rows-requires : tie.Need-copy-rows-requires
-copy-rows-requires c κs = table-listed data-one
+unfolding listed?
+copy-rows-requires c κs = refl
 
 enum-told-2 : tie.Need-enum-told-2
 enum-told-2 c = search needs
@@ -36,7 +38,8 @@ slice-aggregate-copy-rows-2 : tie.Need-slice-aggregate-copy-rows-2
 slice-aggregate-copy-rows-2 c = search needs
 
 copy-rows-requires-2 : tie.Need-copy-rows-requires-2
-copy-rows-requires-2 c κs = table-listed data-two
+unfolding listed?
+copy-rows-requires-2 c κs = refl
 
 same-length : tie.Need-same-length
 same-length c = search needs

@@ -10,8 +10,10 @@ use lib.Seq.{set-getD}
 use borrow.Author.Needs.{needs}
 use Rattle.ground.proofs.Stores.{stores-miss, stores-more}
 use Rattle.ground.specs.Stores.{stores}
-use Rattle.block.specs.Inner.{Listed, Rising}
+use Rattle.lane.specs.Rows.{Rising}
+use Rattle.block.specs.Inner.{Listed}
 use Rattle.block.proofs.Data.{blank-zero}
+use Rattle.block.proofs.Listed.{listed, rising}
 use Rattle.ground.proofs.Smaller.{least-of}
 use Rattle.block.proofs.coding.spread.Statement.{statement}
 use Rattle.block.proofs.coding.spread.Tie as tie
@@ -32,7 +34,7 @@ abbrev put : tie.In-loop Inv-loop μ-loop → ℕ
 put c = getD (start (c .before .before) .args .rows .now) (c .before .loop .k) 0
 
 there : (c : tie.In-loop Inv-loop μ-loop) → (1 ≤ put c) × (put c ≤ 72)
-there c = start (c .before .before) .pre .0 (c .before .loop .k) (omega (arith, c .loop-test .taken, c .before .loop .inv .1))
+there c = listed 72 _ (start (c .before .before) .pre .0) (c .before .loop .k) (omega (arith, c .loop-test .taken, c .before .loop .inv .1))
 
 least-requires : tie.Need-least-requires Inv-loop μ-loop
 least-requires c κs = search needs
@@ -76,14 +78,14 @@ loop-again c = let inv = c .before .before .before .loop .inv in (omega arith, i
 missing : (rows list : List ℕ) (n : ℕ) → Listed 72 rows → Rising rows → n ≤ length rows → (n < length rows → n ≡ length list)
     → stores (replicate 72 0) (λ j. getD rows j 0 - 1) (λ j. getD list j 0) n
     ≡ stores (replicate 72 0) (λ j. getD rows j 0 - 1) (λ j. getD list j 0) (length rows)
-missing rows list n listed rising fits all =
+missing rows list n rows-in rows-up fits all =
     stores-more (replicate 72 0) (λ j. getD rows j 0 - 1) (λ j. getD list j 0) n (length rows) fits
     (λ k h g.
     let f : ℕ → ℕ = λ j. getD rows j 0 - 1 in
     let v : ℕ → ℕ = λ j. getD list j 0 in
     let none : v k ≡ 0 = List·getD-eq-default list 0 {n = k} (omega (arith, all (omega arith))) in
     let free : getD (stores (replicate 72 0) f v k) (f k) 0 ≡ 0
-    = stores-miss (replicate 72 0) f v (f k) k (λ j l e. omega (arith, rising j k l g, listed j (omega arith) .0)) ∙ blank-zero (f k) in
+    = stores-miss (replicate 72 0) f v (f k) k (λ j l e. omega (arith, rows-up j k l g, rows-in j (omega arith) .0)) ∙ blank-zero (f k) in
     ap (set (stores (replicate 72 0) f v k) (f k)) (none ∙ sym free) ∙ set-getD (stores (replicate 72 0) f v k) (f k) 0)
 
 returns : tie.Need-returns Inv-loop μ-loop
@@ -94,7 +96,7 @@ returns c =
     let e : c .before .loop .k ≡ c .before .before .least .result = omega arith in
     inv .4
     ∙ ap (stores (replicate 72 0) (λ j. getD (args .rows .now) j 0 - 1) (λ j. getD (args .list .now) j 0)) e
-    ∙ missing (args .rows .now) (args .list .now) _ (pre .0) (pre .1) (inv .1) (inv .3)
+    ∙ missing (args .rows .now) (args .list .now) _ (listed 72 _ (pre .0)) (rising _ (pre .1)) (inv .1) (inv .3)
 
 pub spread-spec : {M : Type 1} → statement M
 spread-spec =

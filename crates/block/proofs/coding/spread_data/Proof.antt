@@ -1,11 +1,12 @@
 -- `block::coding::spread_data` meets its contract: its tables are those of the data rows of each shape. Assumes nothing.
 use Prim.Native.Nat.{ℕ}
 use mathlib.Core.List.{List}
-use mathlib.Core.Path.{_≡_, sym, ap, _∙_}
+use mathlib.Core.Path.{_≡_, refl, sym, ap, _∙_}
 use borrow.Author.Needs.{needs}
 use Rattle.shape.specs.declared.Shape.{Shape}
 use Rattle.block.specs.Block.{dataBlock}
-use Rattle.block.proofs.DataTables.{data-one, data-two, table-listed, table-spread}
+use Rattle.block.specs.Inner.{listed?, above?, rising?}
+use Rattle.block.proofs.DataTables.{data-one, data-two, table-spread}
 use Rattle.block.proofs.coding.spread_data.Statement.{statement}
 use Rattle.block.proofs.coding.spread_data.Tie as tie
 
@@ -27,7 +28,8 @@ slice-aggregate-spread : tie.Need-slice-aggregate-spread
 slice-aggregate-spread c = search needs
 
 spread-requires : tie.Need-spread-requires
-spread-requires c κs = (table-listed data-one, data-one .rising)
+unfolding listed? rising? above?
+spread-requires c κs = (refl, refl)
 
 enum-told-2 : tie.Need-enum-told-2
 enum-told-2 c = search needs
@@ -36,7 +38,8 @@ slice-aggregate-spread-2 : tie.Need-slice-aggregate-spread-2
 slice-aggregate-spread-2 c = search needs
 
 spread-requires-2 : tie.Need-spread-requires-2
-spread-requires-2 c κs = (table-listed data-two, data-two .rising)
+unfolding listed? rising? above?
+spread-requires-2 c κs = (refl, refl)
 
 returns : tie.Need-returns
 returns c =

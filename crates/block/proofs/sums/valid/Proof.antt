@@ -10,7 +10,7 @@ use borrow.Author.Needs.{needs}
 use borrow.Author.Tests.{leb-true, leb-false}
 use Rattle.shape.specs.declared.Shape.{Shape}
 use Rattle.shape.specs.Shape.{rows}
-use Rattle.block.specs.Verdict.{clean?, verdictOf, validFrom}
+use Rattle.block.specs.Verdict.{toSay, validFrom}
 use Rattle.block.specs.Inner.{Looked}
 use Rattle.block.proofs.Looked.{found-clean}
 use Rattle.block.proofs.sums.valid.Statement.{statement}
@@ -28,7 +28,7 @@ tells : (shape : Shape) (at : ℕ) (words : List ℕ) (found : ℕ) (sums : List
 unfolding validFrom
 tells shape at words found sums small looked = by (leb (at + rows shape) (length words)) refl
   where
-    by : (t : Bool) → leb (at + rows shape) (length words) ≡ t → eqb found 0 ≡ t && clean? (verdictOf shape (drop at words))
+    by : (t : Bool) → leb (at + rows shape) (length words) ≡ t → eqb found 0 ≡ t && eqb (toSay shape (drop at words) .verdict) 1
     by true e =
         let all = leb-true (at + rows shape) (length words) e in
         let found-is = looked .0 all .1 in
