@@ -20,7 +20,7 @@ use Rattle.file.proofs.Ladder.{file-first}
 use Rattle.text.specs.Page.{endToEnd}
 use Rattle.report.specs.Lines.{refusalLine}
 use Rattle.report.specs.Report.{imageReport, reportOf, Inspects}
-use Rattle.demands.specs.Files.{Given, InOrder, FileRefusing, FileReported, FileDemand}
+use Rattle.demands.specs.Files.{FirstGiven, InOrder, FileRefusing, FileReported, FileDemand}
 
 -- ---- the first of its rules
 
@@ -32,18 +32,18 @@ rest-some : (rule : Rule) (rules : List Rule) → T (numbered? (rule ∷ rules))
 rest-some rule rules t = right-part (not (eqb (rule .number) 0)) (numbered? rules) t
 
 -- a number that is given is not 0
-given-some : (rules : List Rule) (number : ℕ) → T (numbered? rules) → Given number rules → number ≡ 0 → ⊥
+given-some : (rules : List Rule) (number : ℕ) → T (numbered? rules) → FirstGiven number rules → number ≡ 0 → ⊥
 given-some [] number t g z = g
 given-some (rule ∷ rules) number t g z =
     ⊎-elim (λ r. first-some rule rules t (sym (r .1) ∙ z)) (λ r. given-some rules number (rest-some rule rules t) (r .1) z) g
 
 module _ (answer number : ℕ) where
-  first-given : (rules : List Rule) → FirstOf rules answer → (number ≡ 0 → ⊥) → answer ≡ number → Given number rules
+  first-given : (rules : List Rule) → FirstOf rules answer → (number ≡ 0 → ⊥) → answer ≡ number → FirstGiven number rules
   first-given [] first ne e = ne (sym e ∙ first)
   first-given (rule ∷ rules) first ne e =
       ⊎-elim (λ r. inl (r .0, sym e ∙ r .1)) (λ r. inr (r .0, first-given rules (r .1) ne e)) first
 
-  given-first : (rules : List Rule) → FirstOf rules answer → Given number rules → answer ≡ number
+  given-first : (rules : List Rule) → FirstOf rules answer → FirstGiven number rules → answer ≡ number
   given-first [] first g = absurd g
   given-first (rule ∷ rules) first g =
       ⊎-elim

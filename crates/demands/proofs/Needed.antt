@@ -1,6 +1,6 @@
 -- What goes wrong in a store of two blocks of 16 words, block 1 from word 16 on, where one hypothesis of demand 3 fails and the others hold.
 -- Both are computed, the others by their tests. Assumes nothing.
-use Prim.Native.Nat.{ℕ, _^_}
+use Prim.Native.Nat.{ℕ, _+_, _^_}
 use mathlib.Core.Path.{_≡_, refl}
 use mathlib.Core.List.{List, [], _∷_, _++_}
 use native.Mathlib.Omega.{arith}
@@ -18,7 +18,7 @@ use Rattle.block.specs.Block.{dataBlock, validBlock, dataOf, lanesLost, mendedL
 use Rattle.block.specs.Verdict.{verdictOf}
 use Rattle.block.proofs.ByWords.{fit?}
 use Rattle.layout.specs.declared.Layout.{Layout}
-use Rattle.layout.specs.Layout.{layoutOf, shapeNumbered}
+use Rattle.layout.specs.Layout.{layoutOf, shapeNumbered, blocks}
 use Rattle.layout.specs.Refusal.{layoutRefusal, imageRefusal, blockRefusal}
 use Rattle.store.specs.Answer.{answerNumber, answerVerdict}
 use Rattle.store.specs.Fresh.{freshImage, freshAfter}
@@ -27,7 +27,7 @@ use Rattle.store.specs.Read.{readAnswer, readBuffer, mendedData}
 use Rattle.store.specs.Refusal.{dataRefusal}
 use Rattle.store.specs.Visit.{visitAnswer, visitAfter}
 use Rattle.store.specs.Write.{writeAnswer, writeAfter}
-use Rattle.rota.specs.declared.Place.the-variants.{Given}
+use Rattle.rota.specs.Numbers.{placeNumber, placeGiven}
 use Rattle.rota.specs.Line.{place, below, noneTwice, zeros, sound}
 use Rattle.rota.specs.Asking.{askRefusal}
 use Rattle.rota.specs.Record.{unbroken, askNumber, rotaAsked, turnNumber, rotaTurned}
@@ -36,7 +36,7 @@ use Rattle.patrol.specs.Format.{formatted}
 use Rattle.patrol.specs.Numbers.{reportNumber}
 use Rattle.patrol.specs.Turn.{turned, turnAfter}
 use Rattle.demands.specs.Steps.{Step, format, write, read, visit, ask, turn, flip, State, fresh, flipped, after, report, turns, lastWritten}
-use Rattle.demands.specs.Demand3.{PatrolVisits, AskVisits, store}
+use Rattle.demands.specs.Demand3.{PatrolVisits, AskVisits, FormatAccepted, store}
 use Rattle.demands.proofs.Tests.{made, every?, Hypothesis, layouts, words, spacing, formats, every, others, Meets, meets}
 
 -- shape 1, interleave 1, two groups; and a layout of the same length, interleave 2, one group
@@ -134,16 +134,21 @@ pub record Needed : Type 0 where
   pub again-wrote : wrote 0 again ≡ 1
   pub again-else : KeepsRead (others formats) 0 again
   -- an ask that was given place 1 loses it
-  pub again-given : asked (small [] .patrol) 1 .place ≡ Given 1
+  pub again-given : placeNumber (asked (small [] .patrol) 1 .place) ≡ 0
+  pub again-place : turns (format ours ∷ []) + 1 ≡ placeGiven (asked (small [] .patrol) 1 .place)
   pub again-unserved : AskVisits 1 (report (small (ask 1 ∷ format ours ∷ []))) → ⊥
   -- and of two turns running with such a format between them neither visits block 1
+  pub again-formatted : FormatAccepted lent ours
+  pub again-enough : turns (turn ∷ format ours ∷ turn ∷ []) ≡ blocks ours
   pub again-first : PatrolVisits 1 (report (small [])) → ⊥
   pub again-second : PatrolVisits 1 (report (small (turn ∷ format ours ∷ []))) → ⊥
   -- a refused read leaves the buffer as it was
   pub refused-gives : gives 2 [] ≡ 7
   pub refused-wrote : wrote 2 [] ≡ 0
   pub refused-meets : KeepsRead every 2 []
-  -- where the format was refused, so is the turn
+  -- where the format was refused, so is the turn, though none comes later
+  pub unformatted-refused : imageRefusal 0 ours ≡ 4
+  pub unformatted-else : Meets [] ours (formats ∷ []) []
   pub unformatted : reportNumber (report (store [] ours [])) ≡ 1
 
 pub needed : Needed
@@ -178,11 +183,16 @@ needed =
       again-wrote = refl;
       again-else = meets refl;
       again-given = refl;
-      again-unserved = λ served. served;
-      again-first = λ visits. omega arith;
-      again-second = λ visits. omega arith;
+      again-place = refl;
+      again-unserved = λ served. omega (arith, served .1 .0);
+      again-formatted = refl;
+      again-enough = refl;
+      again-first = λ visits. omega (arith, visits .1 .0);
+      again-second = λ visits. omega (arith, visits .1 .0);
       refused-gives = refl;
       refused-wrote = refl;
       refused-meets = meets refl;
+      unformatted-refused = refl;
+      unformatted-else = meets refl;
       unformatted = refl;
     }

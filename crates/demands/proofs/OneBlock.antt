@@ -44,7 +44,7 @@ else-two (suc lost) changed clean ne = absurd (ne refl)
 -- a lane is decided to be lost exactly if no valid lane is within one row of it
 lost-lane : (shape : Shape) (found : List ℕ) (i : ℕ) (d : Decision) → Right (before shape) (lane i found) d → lost? d ≡ true → LaneLost shape found i
 lost-lane shape found i unchanged r e = absurd (true≢false (sym e))
-lost-lane shape found i isLost r e = r
+lost-lane shape found i isLost r e = λ meant valid near. r meant valid (omega (arith, near))
 lost-lane shape found i (flipped p) r e = absurd (true≢false (sym e))
 
 lane-lost : (shape : Shape) (found : List ℕ) (i : ℕ) → LaneLost shape found i → lost? (decide (before shape) (lane i found)) ≡ true

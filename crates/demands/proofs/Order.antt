@@ -5,6 +5,7 @@ use native.Mathlib.Omega.{arith}
 use mathlib.Core.List.{List, [], _∷_, _++_, append-assoc, append-nil}
 use native.Mathlib.Nat.{one-le-mul}
 use lib.ListN.{length}
+use Rattle.block.proofs.Verdicts.{verdict-some}
 use Rattle.layout.specs.declared.Layout.{Layout}
 use Rattle.layout.specs.Layout.{blocks}
 use Rattle.layout.specs.Refusal.{imageRefusal}
@@ -12,19 +13,22 @@ use Rattle.layout.proofs.Ladder.{geometry, image-layout}
 use Rattle.store.specs.Fresh.{freshAfter, freshImage}
 use Rattle.rota.specs.declared.Rota.{Rota}
 use Rattle.rota.specs.declared.Due.{Due}
+use Rattle.rota.specs.declared.Due.the-variants.{Two as TwoDue}
 use Rattle.rota.specs.declared.Place.the-variants.{Given}
-use Rattle.rota.specs.Numbers.{firstBlock}
+use Rattle.rota.specs.Numbers.{firstBlock, placeGiven}
 use Rattle.rota.specs.Record.{fresh as freshRota, rotaAsked, rotaTurned}
 use Rattle.rota.specs.Steps.{turn as rotaTurn, turns as rotaTurns, rotaRun, rotaAt, dueAt}
 use Rattle.rota.specs.Plan.{Plan}
 use Rattle.rota.specs.Turning.{dueOf, due}
+use Rattle.rota.proofs.Numbers.{given}
 use Rattle.rota.proofs.Runs.{planAt, due-runs}
 use Rattle.rota.proofs.Patrol.{round-complete, ask-served}
 use Rattle.patrol.specs.declared.Record.{Record}
 use Rattle.patrol.specs.Ask.{asked}
 use Rattle.patrol.specs.Format.{formatted}
 use Rattle.patrol.specs.Numbers.{reportNumber}
-use Rattle.patrol.specs.Turn.{reported, turnedNow, turned}
+use Rattle.patrol.specs.Turn.{seen, visited as visitedIn, reported, turnedNow, turned}
+use Rattle.patrol.proofs.Numbers.{ask-numbered}
 use Rattle.demands.specs.Steps.{Step, ask, turn, fresh, after, stepAfter, report, turns}
 use Rattle.demands.specs.Demand3.{PatrolVisits, AskVisits, store, NotFormatted, TurnsAccepted, EveryBlockVisited, AskServed}
 use Rattle.demands.proofs.Lasting.{fresh-size, front-none}
@@ -45,8 +49,11 @@ due-report layout image next (first ∷ asks) = refl
 
 due-names : (layout : Layout) (image : List ℕ) (next : ℕ) (asks : List ℕ) (block : ℕ) → firstBlock (dueOf next asks) ≡ block
     → PatrolVisits block (reported layout image (dueOf next asks))
-due-names layout image next [] block e = e
-due-names layout image next (first ∷ asks) block e = e
+due-names layout image next [] block e = (refl, (e, verdict-some (seen layout image next)))
+due-names layout image next (first ∷ asks) block e = (refl, (e, verdict-some (seen layout image next)))
+
+ask-names : (layout : Layout) (image : List ℕ) (first second : ℕ) → AskVisits second (reported layout image (TwoDue first second))
+ask-names layout image first second = (refl, (refl, verdict-some (seen layout (visitedIn layout image first) second)))
 
 -- the parts of a store's steps, the rota after them, what it says, and the blocks that are then due
 module _ (image : List ℕ) (layout : Layout) where
@@ -146,10 +153,10 @@ module _ (image : List ℕ) (layout : Layout) (fits : imageRefusal (length image
   unfolding allParts
   served before between block place all none e t =
       let later = stepAfter (ask block) (store image layout before) in
-      let given : rotaAsked (blocks layout) (rotaAfter image layout before) block .place ≡ Given place = sym (place-after before none block) ∙ e in
+      let got : rotaAsked (blocks layout) (rotaAfter image layout before) block .place ≡ Given place = sym (place-after before none block) ∙ e in
       let turn-k : rotaTurns (allParts between later) + 1 ≡ place = rw (parts-turns between later) t in
-      let two = ask-served (blocks layout) some-blocks (partsOf image layout before) block place given (allParts between later) turn-k in
-      rw (report-after (before ++ ask block ∷ between) all, parts-append before (ask block ∷ between) (fresh image layout), two) refl
+      let two = ask-served (blocks layout) some-blocks (partsOf image layout before) block place got (allParts between later) turn-k in
+      rw (report-after (before ++ ask block ∷ between) all, parts-append before (ask block ∷ between) (fresh image layout), two) (ask-names layout _ _ block)
 
 pub turns-accepted : (image : List ℕ) (layout : Layout) → TurnsAccepted image layout
 turns-accepted image layout formatted before none = accepted image layout (omega (arith, formatted)) before none
@@ -160,6 +167,10 @@ every-block-visited image layout formatted before during none enough block insid
     visited image layout (omega (arith, formatted)) before during none (omega (arith, enough)) block inside
 
 pub asks-served : (image : List ℕ) (layout : Layout) → AskServed image layout
-asks-served image layout before between block place all e t =
+asks-served image layout before between block all accepts turn-k =
     let none = front-none (fresh image layout) before (ask block ∷ between) all in
-    served image layout (given-formatted image layout before none block place e) before between block place all none e t
+    let r = store image layout before .patrol in
+    let place = placeGiven (asked r block .place) in
+    let got : asked r block .place ≡ Given place = given (asked r block .place) (ask-numbered r block) accepts in
+    let formatted = given-formatted image layout before none block place got in
+    served image layout formatted before between block place all none got (omega (arith, turn-k))

@@ -7,7 +7,7 @@ use mathlib.Core.List.{List, [], _∷_, _++_}
 use native.Mathlib.Omega.{arith}
 use lib.ListN.{replicate}
 use Rattle.block.proofs.ByWords.{fit?}
-use Rattle.layout.specs.Layout.{layoutOf, shapeNumbered, wordsOf}
+use Rattle.layout.specs.Layout.{layoutOf, shapeNumbered, wordsOf, blocks}
 use Rattle.layout.specs.Refusal.{layoutRefusal, imageRefusal, blockRefusal}
 use Rattle.store.specs.Answer.{answerVerdict}
 use Rattle.store.specs.Fresh.{freshImage, freshAfter}
@@ -18,7 +18,7 @@ use Rattle.store.specs.Visit.{visitAnswer, visitAfter}
 use Rattle.store.specs.Write.{writeAnswer, writeAfter}
 use Rattle.ground.specs.Stores.{stores}
 use Rattle.store.proofs.Promises.{reads}
-use Rattle.rota.specs.declared.Place.the-variants.{Given}
+use Rattle.rota.specs.Numbers.{placeNumber, placeGiven}
 use Rattle.rota.specs.Asking.{askRefusal}
 use Rattle.rota.specs.Line.{place, below, noneTwice, zeros, sound}
 use Rattle.rota.specs.Record.{unbroken, askNumber, rotaAsked, turnNumber, rotaTurned}
@@ -34,9 +34,9 @@ use Rattle.demands.proofs.Lasting.{front-none}
 use Rattle.demands.proofs.Needed.{ours, lent, small, sevens, oneFirst, allOnes, Keeps}
 use Rattle.demands.proofs.Tests.{every?, every, meets}
 
--- block 1 is written twice, and bits flip in three lanes
+-- block 1 is written, and bits flip in three lanes
 abbrev pub start : List Step
-start = write ours 1 allOnes ∷ write ours 1 oneFirst ∷ flip 19 3 ∷ flip 20 4 ∷ flip 2 3 ∷ []
+start = write ours 1 allOnes ∷ flip 19 3 ∷ flip 20 4 ∷ flip 2 3 ∷ []
 
 -- calls that are refused, the last two for another layout
 abbrev pub refused : List Step
@@ -44,9 +44,13 @@ refused =
     write ours 0 [] ∷ read ours 2 sevens ∷ visit ours 2 ∷ ask 2 ∷ format (layoutOf 1 1 3) ∷ write (layoutOf 2 1 2) 0 (replicate 64 1)
     ∷ []
 
--- up to the second flip in lane 3 of block 1
+-- between the two flips in lane 3 of block 1: an ask, two turns, a write, a visit, and those
+abbrev pub between : List Step
+between = ask 1 ∷ turn ∷ write ours 1 oneFirst ∷ visit ours 0 ∷ refused ++ turn ∷ []
+
+-- up to the second of these flips
 abbrev pub begun : List Step
-begun = start ++ ask 1 ∷ turn ∷ refused ++ turn ∷ flip 24 3 ∷ []
+begun = start ++ between ++ flip 24 3 ∷ []
 
 -- block 1 is read, and then block 0, to which nothing was written
 abbrev pub ended : List Step
@@ -73,12 +77,15 @@ pub record Computed : Type 0 where
   -- every hypothesis of c holds of the steps
   pub hypotheses : Keeps every steps
   -- six of the calls are refused
-  pub answered : numbers steps (small []) ≡ 0 ∷ 0 ∷ 0 ∷ 0 ∷ 0 ∷ 0 ∷ 0 ∷ 7 ∷ 6 ∷ 6 ∷ 6 ∷ 4 ∷ 4 ∷ 0 ∷ 0 ∷ 0 ∷ 0 ∷ 0 ∷ 0 ∷ []
+  pub answered : numbers steps (small []) ≡ 0 ∷ 0 ∷ 0 ∷ 0 ∷ 0 ∷ 0 ∷ 0 ∷ 0 ∷ 7 ∷ 6 ∷ 6 ∷ 6 ∷ 4 ∷ 4 ∷ 0 ∷ 0 ∷ 0 ∷ 0 ∷ 0 ∷ 0 ∷ []
   pub first-read : answers (read ours 1 sevens) (small begun) ≡ 0
   pub second-read : answers (read ours 0 sevens) (small readOnce) ≡ 0
-  -- the format is accepted, the ask is given place 1, and two turns come before the second flip
+  -- exactly N turns lie between the two flips in lane 3 of block 1
+  pub spaced : turns between ≡ blocks ours
+  -- the format is accepted, the ask is given place 1, and those two turns are all so far
   pub formatted-first : FormatAccepted lent ours
-  pub given : asked (small start .patrol) 1 .place ≡ Given 1
+  pub given : placeNumber (asked (small start .patrol) 1 .place) ≡ 0
+  pub place-one : placeGiven (asked (small start .patrol) 1 .place) ≡ 1
   pub two : turns begun ≡ 2
   pub alone : turns [] ≡ 0
   -- what was last written to block 1, and to block 0
@@ -95,8 +102,10 @@ computed =
       answered = refl;
       first-read = refl;
       second-read = refl;
+      spaced = refl;
       formatted-first = refl;
       given = refl;
+      place-one = refl;
       two = refl;
       alone = refl;
       last-one = refl;
@@ -146,10 +155,12 @@ shown =
           (front-none origin before (turn ∷ rest) (subst (NotFormatted lent ours) e none));
       visits = λ block l.
           demand-3 .every-block-visited lent ours (computed .formatted-first) [] begun none-begun (rw (computed .two) (omega arith)) block l;
-      served = demand-3 .ask-served lent ours start [] 1 1
-          (front-none origin (start ++ ask 1 ∷ []) (turn ∷ refused ++ turn ∷ flip 24 3 ∷ read ours 1 sevens ∷ ended) none)
+      served = demand-3 .ask-served lent ours start [] 1
+          (front-none origin (start ++ ask 1 ∷ [])
+          (turn ∷ write ours 1 oneFirst ∷ visit ours 0 ∷ refused ++ turn ∷ flip 24 3 ∷ read ours 1 sevens ∷ ended)
+          none)
           (computed .given)
-          (rw (computed .alone) refl);
+          (omega (arith, computed .alone, computed .place-one));
       written = one .1 ∙ computed .last-one;
       written-kept = one .0;
       zero = other .1 ∙ computed .last-zero;

@@ -1,6 +1,7 @@
 -- The data last written to a block is as many words as a block has, and each a word. Assumes nothing.
 use Prim.Native.Nat.{ℕ, zero, suc}
 use mathlib.Core.Bool.{Bool, true, false, cond}
+use native.Mathlib.Omega.{arith}
 use mathlib.Core.Path.{_≡_, refl, sym, ap, _∙_}
 use mathlib.Core.List.{List, [], _∷_}
 use lib.Dec.{eqb}
@@ -53,5 +54,5 @@ module _ (layout : Layout) (block : ℕ) where
       written-data rest (meant block old step state) (stepAfter step state) (rest-named layout state step rest one)
       (λ before later named to list e. words (step ∷ before) later named to list (ap (λ (l : List Step). step ∷ l) e))
       (meant-data old step state (first-named layout state step rest one)
-      (λ named to list e. words [] rest named to list (ap (λ (x : Step). x ∷ rest) e))
+      (λ named to list e k. omega (arith, words [] rest named to list (ap (λ (x : Step). x ∷ rest) e) k))
       ok)

@@ -16,24 +16,23 @@ use Rattle.layout.specs.Refusal.{imageRefusal}
 use Rattle.store.specs.declared.Answer.{Answer}
 use Rattle.store.specs.Answer.{answerNumber, answerVerdict}
 use Rattle.store.specs.Read.{Reads}
-use Rattle.rota.specs.declared.Place.the-variants.{Given}
+use Rattle.rota.specs.Numbers.{placeNumber, placeGiven}
 use Rattle.patrol.specs.declared.Report.{Report}
-use Rattle.patrol.specs.declared.Report.the-variants.{Refused, One, Two}
 use Rattle.patrol.specs.Ask.{asked}
-use Rattle.patrol.specs.Numbers.{reportNumber}
+use Rattle.patrol.specs.Numbers.{Seen, reportNumber, reportFirst, reportSecond}
 use Rattle.demands.specs.Steps.{Step, format, write, read, visit, ask, turn, flip, State, fresh, after, report, answers, turns, lastWritten}
+
+-- a visit in a report names the block, and has a verdict
+abbrev pub Names : ℕ → Seen → Type 0
+Names block seen = (seen .block ≡ block) × (seen .said .verdict ≡ 0 → ⊥)
 
 -- the report is of an accepted turn, and names the block as the patrol's
 abbrev pub PatrolVisits : ℕ → Report → Type 0
-PatrolVisits block (Refused number) = ⊥
-PatrolVisits block (One first verdict) = first ≡ block
-PatrolVisits block (Two first verdict second other) = first ≡ block
+PatrolVisits block report = (reportNumber report ≡ 0) × Names block (reportFirst report)
 
 -- the report is of an accepted turn, and names the block as that of the ask that was served
 abbrev pub AskVisits : ℕ → Report → Type 0
-AskVisits block (Refused number) = ⊥
-AskVisits block (One first verdict) = ⊥
-AskVisits block (Two first verdict second other) = second ≡ block
+AskVisits block report = (reportNumber report ≡ 0) × Names block (reportSecond report)
 
 -- the layout that a call names is this one
 abbrev pub SameLayout : Layout → Step → Type 0
@@ -87,9 +86,9 @@ module _ (image : List ℕ) (layout : Layout) where
   -- an ask given place k is served by the k-th turn after it, whatever comes between
   abbrev pub AskServed : Type 0
   AskServed =
-      (before between : List Step) (block place : ℕ) → NotFormatted (before ++ ask block ∷ between)
-      → asked (store before .patrol) block .place ≡ Given place
-      → turns between + 1 ≡ place
+      (before between : List Step) (block : ℕ) → NotFormatted (before ++ ask block ∷ between)
+      → placeNumber (asked (store before .patrol) block .place) ≡ 0
+      → turns between + 1 ≡ placeGiven (asked (store before .patrol) block .place)
       → AskVisits block (report (store (before ++ ask block ∷ between)))
 
   -- ---- c

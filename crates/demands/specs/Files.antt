@@ -16,13 +16,13 @@ use Rattle.report.specs.Lines.{refusalLine}
 use Rattle.report.specs.Report.{imageReport, reportOf, Inspects}
 
 -- a rule of this number applies, and none before it; the number may have two rules, as 10 has
-abbrev pub Given : ℕ → List Rule → Type 0
-Given number [] = ⊥
-Given number (rule ∷ rest) = (rule .reason × (number ≡ rule .number)) ⊎ ((rule .reason → ⊥) × Given number rest)
+abbrev pub FirstGiven : ℕ → List Rule → Type 0
+FirstGiven number [] = ⊥
+FirstGiven number (rule ∷ rest) = (rule .reason × (number ≡ rule .number)) ⊎ ((rule .reason → ⊥) × FirstGiven number rest)
 
 -- each number is answered exactly when it is given, and 0 exactly when no rule applies
 pub record InOrder (rules : List Rule) (answer : ℕ) : Type 1 where
-  pub exactly : (number : ℕ) → (number ≡ 0 → ⊥) → (answer ≡ number) ↔ Given number rules
+  pub exactly : (number : ℕ) → (number ≡ 0 → ⊥) → (answer ≡ number) ↔ FirstGiven number rules
   pub accepted : (answer ≡ 0) ↔ NoneOf rules
 
 -- the header: its number goes by the rules; it names the layout of the bytes where none applies, and else one of zeros
@@ -33,7 +33,7 @@ pub record FileRefusing (bytes : List ℕ) (header : Header) : Type 1 where
 
 -- what is answered of a file: the whole report, that is the line of its refusal, or the report of its image
 pub record FileReported (bytes answered : List ℕ) : Type 1 where
-  pub refused : (number : ℕ) → Given number (fileRules bytes) → answered ≡ refusalLine number
+  pub refused : (number : ℕ) → FirstGiven number (fileRules bytes) → answered ≡ refusalLine number
   pub accepted : NoneOf (fileRules bytes) → answered ≡ endToEnd (imageReport (wordsIn bytes) (layoutIn bytes))
   pub whole : answered ≡ endToEnd (reportOf bytes)
 

@@ -47,8 +47,8 @@ wordsInto bytes image = stores image (λ k. k) (wordIn bytes) (min (wordCount (l
 
 -- ---- the promises of word_count and read_words
 
-abbrev pub CountsWords : ℕ → ℕ → Type 0
-CountsWords len count = count ≡ wordCount len
+abbrev pub CountsFileWords : ℕ → ℕ → Type 0
+CountsFileWords len count = count ≡ wordCount len
 
 abbrev pub ReadsWords : List ℕ → List ℕ → List ℕ → Type 0
 ReadsWords bytes image left = left ≡ wordsInto bytes image

@@ -26,7 +26,7 @@ headerIf number header = ifZero number header (Refused number)
 unfoldable pub headerOf : List ℕ → Header
 headerOf bytes = headerIf (fileRefusal bytes) (Image (layoutIn bytes))
 
--- the promise of read_header: number and layout in the paper's values; a refusal has a number
+-- the promise of read_header: number and layout in the specification's values; no refusal has the number 0
 pub record HeaderRead (bytes : List ℕ) (header : Header) : Type 0 where
   pub number : headerNumber header ≡ fileRefusal bytes
   pub layout : headerLayout header ≡ ifZero (fileRefusal bytes) (layoutIn bytes) (layoutOf 0 0 0)

@@ -1,5 +1,5 @@
 // The header and the words of a file.
-ghost use Rattle.file.specs.Bytes.{CountsWords, ReadsWords};
+ghost use Rattle.file.specs.Bytes.{CountsFileWords, ReadsWords};
 ghost use Rattle.file.specs.Header.{HeaderRead};
 use super::Header;
 use super::refusals::check_body;
@@ -31,7 +31,7 @@ pub fn read_header(bytes: &[u8]) -> Header
 
 // How many whole words stand after the header of a file of `len` bytes.
 pub fn word_count(len: usize) -> usize
-    ensures { λ r. ⌜ CountsWords len r ⌝ }
+    ensures { λ r. ⌜ CountsFileWords len r ⌝ }
 {
     if len < 9 { 0 } else { (len - 9) / 4 }
 }

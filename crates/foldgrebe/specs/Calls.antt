@@ -7,7 +7,7 @@ use lib.ListN.{length}
 use Rattle.ground.specs.Choice.{ifZero}
 use Rattle.block.specs.Verdict.{unsaid, toSay, saidWords}
 use Rattle.layout.specs.declared.Layout.{Layout}
-use Rattle.layout.specs.Layout.{shapeOf, blocks}
+use Rattle.layout.specs.Layout.{shapeOf}
 use Rattle.layout.specs.Refusal.{imageRefusal, blockRefusal}
 use Rattle.store.specs.Image.{gathered}
 use Rattle.store.specs.Refusal.{dataRefusal}
@@ -16,13 +16,11 @@ use Rattle.store.specs.Write.{writeAfter}
 use Rattle.store.specs.Read.{readBuffer}
 use Rattle.store.specs.Visit.{visitAfter}
 use Rattle.rota.specs.Line.{asksOf}
-use Rattle.rota.specs.Asking.{askPlace, joined}
-use Rattle.rota.specs.Turning.{movedOn}
-use Rattle.rota.specs.Record.{planOf, rotaOf}
-use Rattle.patrol.specs.declared.Record.{Record}
+use Rattle.rota.specs.Asking.{askPlace}
+use Rattle.rota.specs.Record.{planOf}
 use Rattle.patrol.specs.Format.{freshRecord, noRecord}
-use Rattle.patrol.specs.Ask.{withRota, askRefused}
-use Rattle.patrol.specs.Turn.{seenIn, askSeen, askVisited, turnRefused}
+use Rattle.patrol.specs.Ask.{withAsk, askRefused}
+use Rattle.patrol.specs.Turn.{withTurn, seenIn, askSeen, askVisited, turnRefused}
 use Rattle.patrol.specs.Numbers.{unseen, seenWords}
 use Rattle.words.specs.Records.{recordOf, recordWords}
 
@@ -50,13 +48,6 @@ pub record FormatCall (image : List ℕ) (layout : Layout) (number : ℕ) (after
   pub answers : number ≡ imageRefusal (length image) layout
   pub leaves : after ≡ freshAfter image layout
   pub back : words ≡ recordWords (ifZero (imageRefusal (length image) layout) (freshRecord layout) noRecord)
-
--- the record that an accepted ask makes of a record, and an accepted turn
-abbrev pub withAsk : Record → ℕ → Record
-withAsk r block = withRota r (rotaOf (joined (planOf (r .rota)) block))
-
-abbrev pub withTurn : Record → Record
-withTurn r = withRota r (rotaOf (movedOn (blocks (r .layout)) (planOf (r .rota))))
 
 -- ask: the record that was lent, and what it becomes; refused, it is the same
 pub record AskCall (lent : List ℕ) (block number : ℕ) (words place : List ℕ) : Type 0 where

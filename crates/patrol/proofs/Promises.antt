@@ -13,11 +13,10 @@ use Rattle.layout.specs.declared.Layout.{Layout}
 use Rattle.layout.specs.Layout.{shapeOf, blocks}
 use Rattle.layout.specs.Refusal.{layoutRefusal, imageRefusal}
 use Rattle.rota.specs.Line.{asksOf}
-use Rattle.rota.specs.Asking.{askPlace, joined}
-use Rattle.rota.specs.Turning.{movedOn}
+use Rattle.rota.specs.Asking.{askPlace}
 use Rattle.rota.specs.Numbers.{placeGiven}
 use Rattle.rota.specs.declared.Place.the-variants.{Refused as NoPlace}
-use Rattle.rota.specs.Record.{planOf, rotaOf, askNumber, rotaAsked, turnNumber, rotaTurned}
+use Rattle.rota.specs.Record.{planOf, askNumber, rotaAsked, turnNumber, rotaTurned}
 use Rattle.rota.proofs.Numbers as rotaNumbers
 use Rattle.store.specs.Image.{gathered}
 use Rattle.store.specs.Fresh.{freshAfter}
@@ -29,8 +28,8 @@ use Rattle.patrol.specs.declared.Report.{Report}
 use Rattle.patrol.specs.declared.Report.the-variants.{Refused}
 use Rattle.patrol.specs.Numbers.{Seen, seenOf, unseen, reportFirst, reportSecond}
 use Rattle.patrol.specs.Format.{formatted, Formats}
-use Rattle.patrol.specs.Ask.{withRota, asked, askedBy, askRefused, Asks}
-use Rattle.patrol.specs.Turn.{seenIn, askSeen, askVisited, seen, visited, reported, patrolled, turned, turnedBy, turnAfter, turnRefused, Turns}
+use Rattle.patrol.specs.Ask.{withRota, withAsk, asked, askedBy, askRefused, Asks}
+use Rattle.patrol.specs.Turn.{withTurn, seenIn, askSeen, askVisited, seen, visited, reported, patrolled, turned, turnedBy, turnAfter, turnRefused, Turns}
 use Rattle.patrol.proofs.Numbers.{reports-told, ask-number, ask-numbered, turn-number, turn-numbered}
 
 -- ---- format
@@ -72,7 +71,7 @@ module _ (r : Record) (block : ℕ) where
       place zero (suc later) = refl
       place (suc number) later = refl
 
-      back : (number later : ℕ) → askedWith number later .back ≡ ifZero (number then later) (withRota r (rotaOf (joined (planOf (r .rota)) block))) r
+      back : (number later : ℕ) → askedWith number later .back ≡ ifZero (number then later) (withAsk r block) r
       back zero zero = refl
       back zero (suc later) = refl
       back (suc number) later = refl
@@ -147,7 +146,7 @@ module _ (r : Record) (image : List ℕ) where
       second (suc number) later l = refl
 
       back : (number later : ℕ) (l : List ℕ)
-          → turnedWith number later l .back ≡ ifZero (number then later) (withRota r (rotaOf (movedOn (blocks (r .layout)) (planOf (r .rota))))) r
+          → turnedWith number later l .back ≡ ifZero (number then later) (withTurn r) r
       back zero zero l = refl
       back zero (suc later) l = refl
       back (suc number) later l = refl

@@ -18,6 +18,10 @@ use Rattle.patrol.specs.declared.Asked.{Asked}
 abbrev pub withRota : Record → Rota → Record
 withRota r rota = record { layout = r .layout; rota = rota }
 
+-- the record after an ask that is accepted
+abbrev pub withAsk : Record → ℕ → Record
+withAsk r block = withRota r (rotaOf (joined (planOf (r .rota)) block))
+
 -- the first of 1, 2, 3, 5, 6, 8 that applies
 abbrev pub askRefused : Record → ℕ → ℕ
 askRefused r block = layoutRefusal (r .layout) then askNumber (blocks (r .layout)) (r .rota) block
@@ -28,7 +32,7 @@ pub record Asks (r : Record) (block : ℕ) (answer : Asked) : Type 0 where
   pub place : placeGiven (answer .place) ≡ ifZero (askRefused r block) (askPlace (planOf (r .rota)) block) 0
   -- no refusal has the number 0
   pub numbered : answer .place ≡ Refused 0 → ⊥
-  pub back : answer .back ≡ ifZero (askRefused r block) (withRota r (rotaOf (joined (planOf (r .rota)) block))) r
+  pub back : answer .back ≡ ifZero (askRefused r block) (withAsk r block) r
 
 -- ---- the answer itself, as callers use it
 

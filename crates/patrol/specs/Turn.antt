@@ -37,13 +37,17 @@ visited layout image block = visitAfter image layout block
 abbrev pub turnRefused : Record → ℕ → ℕ
 turnRefused r len = imageRefusal len (r .layout) then turnNumber (blocks (r .layout)) (r .rota)
 
+-- the record after a turn that is accepted
+abbrev pub withTurn : Record → Record
+withTurn r = withRota r (rotaOf (movedOn (blocks (r .layout)) (planOf (r .rota))))
+
 -- a block visited in an image
 abbrev pub seenIn : Layout → List ℕ → ℕ → Seen
 seenIn layout image block = record { block = block; said = toSay (shapeOf layout) (gathered layout block image) }
 
--- the ask at place 1, visited after the block that is next
+-- the ask at place 1, visited after the block that is next; block, verdict and count 0 where none waits
 abbrev pub askSeen : Layout → List ℕ → ℕ → List ℕ → Seen
-askSeen layout image next [] = unseen
+askSeen layout image next [] = record { block = 0; said = record { verdict = 0; count = 0 } }
 askSeen layout image next (first ∷ rest) = seenIn layout (visited layout image next) first
 
 -- the image after both
@@ -59,7 +63,7 @@ pub record Turns (r : Record) (image : List ℕ) (answer : Turned) (after : List
       ≡ ifZero (turnRefused r (length image)) (askSeen (r .layout) image (r .rota .next) (asksOf (r .rota .line))) unseen
   -- no refusal has the number 0
   pub numbered : answer .report ≡ Refused 0 → ⊥
-  pub back : answer .back ≡ ifZero (turnRefused r (length image)) (withRota r (rotaOf (movedOn (blocks (r .layout)) (planOf (r .rota))))) r
+  pub back : answer .back ≡ ifZero (turnRefused r (length image)) (withTurn r) r
   pub leaves : after ≡ ifZero (turnRefused r (length image)) (askVisited (r .layout) image (r .rota .next) (asksOf (r .rota .line))) image
 
 -- ---- the answer itself, as callers use it

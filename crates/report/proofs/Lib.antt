@@ -2,4 +2,5 @@ pub mod Counts
 pub mod Visited
 pub mod Reported
 pub mod Whole
+pub mod Input
 pub mod OneResult

@@ -27,6 +27,11 @@ place-told (NoPlace v) (Given j) h k e f = absurd (h (ap NoPlace e))
 place-told (Given i) (NoPlace w) h k e f = absurd (k (ap NoPlace (sym e)))
 place-told (Given i) (Given j) h k e f = ap Given f
 
+-- a place that has number 0 is given
+pub given : (a : Place) → (a ≡ NoPlace 0 → ⊥) → placeNumber a ≡ 0 → a ≡ Given (placeGiven a)
+given (NoPlace v) h e = absurd (h (ap NoPlace e))
+given (Given k) h e = refl
+
 pub due-told : (a b : Due) → (a ≡ NoneDue 0 → ⊥) → (b ≡ NoneDue 0 → ⊥) → dueNumber a ≡ dueNumber b → served a ≡ served b
     → firstBlock a ≡ firstBlock b → secondBlock a ≡ secondBlock b → a ≡ b
 due-told (NoneDue v) (NoneDue w) h k e s f g = ap NoneDue e
