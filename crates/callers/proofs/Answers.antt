@@ -4,7 +4,6 @@ use mathlib.Core.Path.{_≡_, refl, sym, ap, ap₂, _∙_}
 use mathlib.Core.List.{List, [], _∷_, _++_}
 use lib.ListN.{getD}
 use Rattle.block.specs.Verdict.{saidWords}
-use Rattle.block.proofs.Verdicts.{verdict-some}
 use Rattle.layout.specs.declared.Layout.{Layout}
 use Rattle.store.specs.Answer.{answerNumber, answerWords}
 use Rattle.store.specs.Read.{readAnswer}
@@ -13,7 +12,6 @@ use Rattle.store.specs.Write.{writeAnswer}
 use Rattle.store.proofs.Promises.{writes, reads, visits}
 use Rattle.rota.specs.Numbers.{placeNumber, placeGiven}
 use Rattle.patrol.specs.declared.Report.{Report}
-use Rattle.patrol.specs.declared.Report.the-variants.{Refused, One, Two}
 use Rattle.patrol.specs.Ask.{asked}
 use Rattle.patrol.specs.Turn.{turned}
 use Rattle.patrol.specs.Numbers.{Seen, reportNumber, reportWords, seenWords}
@@ -57,12 +55,8 @@ turn-said {lent} {image} c =
 -- ---- what the words of a report name
 
 pub patrol-named : (block : ℕ) (report : Report) → PatrolVisits block report → getD (reportWords report) 0 0 ≡ block
-patrol-named block (Refused number) h = absurd h
-patrol-named block (One first verdict) h = h
-patrol-named block (Two first verdict second other) h = h
+patrol-named block report h = h .1 .0
 
 pub ask-named : (block : ℕ) (report : Report) → AskVisits block report
     → (reportNumber report ≡ 0) × (getD (reportWords report) visitWidth 0 ≡ block) × (getD (reportWords report) (suc visitWidth) 0 ≡ 0 → ⊥)
-ask-named block (Refused number) h = absurd h
-ask-named block (One first verdict) h = absurd h
-ask-named block (Two first verdict second other) h = (refl, h, verdict-some other)
+ask-named block report h = (h .0, h .1 .0, h .1 .1)

@@ -13,16 +13,11 @@ use Rattle.store.specs.Reason.{dataRules}
 use Rattle.store.specs.Read.{readAnswer, readBuffer}
 use Rattle.store.specs.Visit.{visitAnswer}
 use Rattle.store.proofs.Promises.{reads}
-use Rattle.rota.specs.declared.Place.{Place}
-use Rattle.rota.specs.declared.Place.the-variants.{Given, Refused}
-use Rattle.rota.specs.Numbers.{placeNumber, placeGiven}
 use Rattle.patrol.specs.declared.Record.{Record}
-use Rattle.patrol.specs.Ask.{asked}
 use Rattle.patrol.specs.Format.{formatted}
 use Rattle.patrol.specs.Turn.{turnRefused}
 use Rattle.patrol.specs.Numbers.{Seen, unseen, seenWords, reportNumber, reportWords}
 use Rattle.patrol.specs.Reason.{askRules, turnRules}
-use Rattle.patrol.proofs.Numbers.{ask-numbered}
 use Rattle.words.specs.Answers.{verdictWidth, reportWidth}
 use Rattle.words.specs.Records.{recordWidth, recordOf, recordWords}
 use Rattle.words.proofs.RoundTrip.{same-words, same-record}
@@ -33,10 +28,11 @@ use Rattle.demands.proofs.Demand1.{demand-1}
 use Rattle.demands.proofs.Demand2.{demand-2}
 use Rattle.demands.proofs.Demand3.{demand-3}
 use Rattle.callers.specs.Handing.{Kept, RanFrom}
-use Rattle.callers.specs.Demands.{RoundTrips, Refusing, CallerDemand1, CallerDemand2, CallerDemand3}
-use Rattle.callers.specs.Demands.{TurnsAccepted, EveryBlockVisited, AskServed, ReadsRight}
+use Rattle.callers.specs.Demands.{RoundTrips, CallerRefusing, CallerDemand1, CallerDemand2, CallerDemand3}
+use Rattle.callers.specs.Demands.{CallerTurnsAccepted, CallerBlocksVisited, CallerAskServed, CallerReadsRight, CallerRuns}
 use Rattle.callers.proofs.Answers.{write-said, read-said, visit-said, ask-said, turn-said, patrol-named, ask-named}
-use Rattle.callers.proofs.Followed.{held, followed}
+use Rattle.callers.proofs.Followed.{held, step-number, followed}
+use Rattle.callers.proofs.Running.{runs}
 
 pub round-trips : RoundTrips
 round-trips = record { words = same-words; back = same-record }
@@ -45,7 +41,7 @@ round-trips = record { words = same-words; back = same-record }
 
 -- a number that is told goes by the rules, and what it tells
 refusing : {rules : List Rule} {number told : ℕ} {Else : Type 0} → number ≡ told → Ruled rules told → ((told ≡ 0 → ⊥) → Else)
-    → Refusing rules number Else
+    → CallerRefusing rules number Else
 refusing e ruled else = record { ruled = rw e ruled; unchanged = λ ne. else (λ z. ne (e ∙ z)) }
 
 -- what is said where a call is refused, as words
@@ -62,13 +58,13 @@ lent-back lent size number moved ne = ap recordWords (refused-kept number moved 
 
 module _ {image : List ℕ} {layout : Layout} {block number : ℕ} where
   write-refuses : {list after : List ℕ} → WriteCall image layout block list number after
-      → Refusing (dataRules (length image) layout block (length list)) number (after ≡ image)
+      → CallerRefusing (dataRules (length image) layout block (length list)) number (after ≡ image)
   write-refuses {list} c =
       let d = demand-1 .write image layout block list in
       refusing (write-said c) (d .ruled) (λ ne. c .leaves ∙ d .unchanged ne)
 
   read-refuses : {buffer kept after verdict : List ℕ} → ReadCall image layout block buffer number kept after verdict
-      → Refusing (dataRules (length image) layout block (length buffer)) number
+      → CallerRefusing (dataRules (length image) layout block (length buffer)) number
       ((kept ≡ image) × (after ≡ buffer) × (verdict ≡ replicate verdictWidth 0))
   read-refuses {buffer} c =
       let d = demand-1 .read image layout block buffer in
@@ -76,21 +72,21 @@ module _ {image : List ℕ} {layout : Layout} {block number : ℕ} where
       refusing told (d .ruled) (λ ne. (c .keeps, c .leaves ∙ d .unchanged ne, c .says ∙ none-said _ _ (λ z. ne (sym told ∙ c .answers ∙ z))))
 
   visit-refuses : {after verdict : List ℕ} → VisitCall image layout block number after verdict
-      → Refusing (blockRules (length image) layout block) number ((after ≡ image) × (verdict ≡ replicate verdictWidth 0))
+      → CallerRefusing (blockRules (length image) layout block) number ((after ≡ image) × (verdict ≡ replicate verdictWidth 0))
   visit-refuses c =
       let d = demand-1 .visit image layout block in
       let told = visit-said c .0 in
       refusing told (d .ruled) (λ ne. (c .leaves ∙ d .unchanged ne, c .says ∙ none-said _ _ (λ z. ne (sym told ∙ c .answers ∙ z))))
 
 format-refuses : {image after words : List ℕ} {layout : Layout} {number : ℕ} → FormatCall image layout number after words
-    → Refusing (imageRules (length image) layout) number ((after ≡ image) × (words ≡ replicate recordWidth 0))
+    → CallerRefusing (imageRules (length image) layout) number ((after ≡ image) × (words ≡ replicate recordWidth 0))
 unfolding formatted
 format-refuses {image} {after} {words} {layout} c =
     let d = demand-1 .format image layout in
     refusing (c .answers) (d .ruled) (λ ne. let kept = d .unchanged ne in (c .leaves ∙ kept .1, c .back ∙ ap recordWords (kept .0)))
 
 ask-refuses : {lent words place : List ℕ} {block number : ℕ} → length lent ≡ recordWidth → AskCall lent block number words place
-    → Refusing (askRules (recordOf lent) block) number ((words ≡ lent) × (place ≡ 0 ∷ []))
+    → CallerRefusing (askRules (recordOf lent) block) number ((words ≡ lent) × (place ≡ 0 ∷ []))
 ask-refuses {lent} {words} {place} {block} size c =
     let d = demand-1 .ask (recordOf lent) block in
     let told = ask-said c in
@@ -101,7 +97,7 @@ ask-refuses {lent} {words} {place} {block} size c =
     ))
 
 turn-refuses : {lent image words after report : List ℕ} {number : ℕ} → length lent ≡ recordWidth → TurnCall lent image number words after report
-    → Refusing (turnRules (recordOf lent) (length image)) number ((words ≡ lent) × (after ≡ image) × (report ≡ replicate reportWidth 0))
+    → CallerRefusing (turnRules (recordOf lent) (length image)) number ((words ≡ lent) × (after ≡ image) × (report ≡ replicate reportWidth 0))
 turn-refuses {lent} {image} size c =
     let d = demand-1 .turn (recordOf lent) image in
     let told = turn-said c .0 in
@@ -134,6 +130,10 @@ caller-demand-2 =
 
 -- ---- demand 3
 
+pub caller-runs : CallerRuns
+caller-runs =
+    record { runs = runs; numbers = λ image layout before step old new number r c. step-number step new (followed image layout before r) c }
+
 module _ (image : List ℕ) (layout : Layout) where
   -- the report of a turn is that of the state
   reported : (steps : List Step) (now : Kept) → RanFrom image layout steps now
@@ -143,11 +143,11 @@ module _ (image : List ℕ) (layout : Layout) where
       let h = followed image layout steps r in
       rw (← held h, ← h .image) (turn-said c)
 
-  turns-accepted : TurnsAccepted image layout
+  turns-accepted : CallerTurnsAccepted image layout
   turns-accepted formatted steps none now r number words after said c =
       reported steps now r number words after said c .0 ∙ demand-3 .turns-accepted image layout formatted steps none
 
-  every-block-visited : EveryBlockVisited image layout
+  every-block-visited : CallerBlocksVisited image layout
   every-block-visited formatted before during none enough block inside =
       let found = demand-3 .every-block-visited image layout formatted before during none enough block inside in (
         found .0,
@@ -158,25 +158,18 @@ module _ (image : List ℕ) (layout : Layout) where
             ∙ patrol-named block (report (store image layout (before ++ found .0))) (found .3),
       )
 
-  -- a place that an accepted ask gives
-  given : (place : Place) → placeNumber place ≡ 0 → (place ≡ Refused 0 → ⊥) → place ≡ Given (placeGiven place)
-  given (Refused number) z ne = absurd (ne (ap Refused z))
-  given (Given place) z ne = refl
-
-  ask-served : AskServed image layout
+  ask-served : CallerAskServed image layout
   ask-served before between block none earlier was number words place c z k now r answer handed after said d =
       let h = followed image layout before was in
       let heard = ask-said c in
       let asking = rw (held h) at heard in
-      let gave = asked (store image layout before .patrol) block .place in
-      let got : gave ≡ Given (placeGiven gave) = given gave (sym (asking .0) ∙ z) (ask-numbered (store image layout before .patrol) block) in
       let kth = k ∙ ap (λ (l : List ℕ). getD l 0 0) (asking .1) in
-      let serves = demand-3 .ask-served image layout before between block (placeGiven gave) none got kth in
+      let serves = demand-3 .ask-served image layout before between block none (sym (asking .0) ∙ z) kth in
       let named = ask-named block (report (store image layout (before ++ ask block ∷ between))) serves in
       let told = reported (before ++ ask block ∷ between) now r answer handed after said d in
       rw (told .0, told .1) named
 
-  reads-right : ReadsRight image layout
+  reads-right : CallerReadsRight image layout
   reads-right steps one words spaced none before rest named block buffer e now r number kept left verdict c z =
       let h = followed image layout before r in
       let said = read-said c in

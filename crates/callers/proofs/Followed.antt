@@ -8,8 +8,11 @@ use Rattle.ground.specs.Choice.{ifZero}
 use Rattle.layout.specs.declared.Layout.{Layout}
 use Rattle.rota.specs.Line.{places}
 use Rattle.store.specs.Fresh.{freshAfter}
-use Rattle.store.specs.Write.{writeAfter}
-use Rattle.store.specs.Visit.{visitAfter}
+use Rattle.store.specs.Write.{writeAnswer, writeAfter}
+use Rattle.store.specs.Visit.{visitAnswer, visitAfter}
+use Rattle.store.specs.Answer.{answerNumber}
+use Rattle.store.specs.Read.{readAnswer}
+use Rattle.rota.specs.Numbers.{placeNumber}
 use Rattle.patrol.specs.declared.Record.{Record}
 use Rattle.patrol.specs.Ask.{asked}
 use Rattle.patrol.specs.Format.{formatted}
@@ -18,9 +21,10 @@ use Rattle.patrol.proofs.Promises.{asks, turns}
 use Rattle.words.specs.Records.{recordOf, recordWords, recordWidth}
 use Rattle.words.proofs.RoundTrip.{same-record}
 use Rattle.foldgrebe.specs.Calls.{FormatCall, AskCall, TurnCall}
-use Rattle.demands.specs.Steps.{Step, format, write, read, visit, ask, turn, flip, State, fresh, flipped, stepAfter, after}
+use Rattle.demands.specs.Steps.{Step, format, write, read, visit, ask, turn, flip, State, flipped, stepAfter, after, answers}
 use Rattle.demands.specs.Demand3.{store}
 use Rattle.callers.specs.Handing.{Kept, Called, Ran, RanFrom}
+use Rattle.callers.proofs.Answers.{write-said, read-said, visit-said, ask-said, turn-said}
 
 -- what the caller keeps is a state's, as words
 pub record Holds (kept : Kept) (state : State) : Type 0 where
@@ -54,34 +58,44 @@ either-words : (number : ℕ) (new old : Record) → ifZero number (recordWords 
 either-words zero new old = refl
 either-words (suc number) new old = refl
 
-step-held : (step : Step) {old new : Kept} {state : State} → Holds old state → Called step old new → Holds new (stepAfter step state)
-step-held (format layout) {old} {new} {state} h c =
-    let said = format-words (old .image) layout (c .2) in
+step-held : (step : Step) (number : ℕ) {old new : Kept} {state : State} → Holds old state → Called step number old new → Holds new (stepAfter step state)
+step-held (format layout) number {old} {new} {state} h c =
+    let said = format-words (old .image) layout (c .1) in
     let made = formatted (state .image) layout in
     record {
-      image = c .2 .leaves ∙ ap (λ (l : List ℕ). freshAfter l layout) (h .image);
-      words = c .3 ∙ rw (said .0, said .1, h .image, h .words) (either-words (made .number) (made .back) (state .patrol));
+      image = c .1 .leaves ∙ ap (λ (l : List ℕ). freshAfter l layout) (h .image);
+      words = c .2 ∙ rw (said .0, said .1, h .image, h .words) (either-words (made .number) (made .back) (state .patrol));
     }
-step-held (write layout block list) {old} {new} {state} h c =
-    record { image = c .1 .leaves ∙ ap (λ (l : List ℕ). writeAfter l layout block list) (h .image); words = c .2 ∙ h .words }
-step-held (read layout block buffer) h c = record { image = c .3 .keeps ∙ h .image; words = c .4 ∙ h .words }
-step-held (visit layout block) h c =
-    record { image = c .2 .leaves ∙ ap (λ (l : List ℕ). visitAfter l layout block) (h .image); words = c .3 ∙ h .words }
-step-held (ask block) h c =
-    record { image = c .3 ∙ h .image; words = ask-leaves (c .2) ∙ ap (λ (r : Record). recordWords (asked r block .back)) (held h) }
-step-held turn {old} {new} {state} h c =
-    let left = turn-leaves (c .2) in
+step-held (write layout block list) number h c =
+    record { image = c .0 .leaves ∙ ap (λ (l : List ℕ). writeAfter l layout block list) (h .image); words = c .1 ∙ h .words }
+step-held (read layout block buffer) number h c = record { image = c .2 .keeps ∙ h .image; words = c .3 ∙ h .words }
+step-held (visit layout block) number h c =
+    record { image = c .1 .leaves ∙ ap (λ (l : List ℕ). visitAfter l layout block) (h .image); words = c .2 ∙ h .words }
+step-held (ask block) number h c =
+    record { image = c .2 ∙ h .image; words = ask-leaves (c .1) ∙ ap (λ (r : Record). recordWords (asked r block .back)) (held h) }
+step-held turn number h c =
+    let left = turn-leaves (c .1) in
     record {
       image = left .1 ∙ rw (held h, h .image);
       words = left .0 ∙ rw (held h, h .image);
     }
-step-held (flip index bit) h c =
-    record { image = c .0 ∙ ap (flipped index bit) (h .image); words = c .1 ∙ h .words }
+step-held (flip index bit) number h c = record { image = c .1 ∙ ap (flipped index bit) (h .image); words = c .2 ∙ h .words }
+
+-- the number that a call answers is the step's
+pub step-number : (step : Step) {number : ℕ} {old : Kept} (new : Kept) {state : State} → Holds old state → Called step number old new → number ≡ answers step state
+step-number (format layout) {number} {old} new h c =
+    format-words (old .image) layout (c .1) .0 ∙ ap (λ (l : List ℕ). formatted l layout .number) (h .image)
+step-number (write layout block list) new h c = write-said (c .0) ∙ ap (λ (l : List ℕ). answerNumber (writeAnswer l layout block list)) (h .image)
+step-number (read layout block buffer) new h c = read-said (c .2) .0 ∙ ap (λ (l : List ℕ). answerNumber (readAnswer l layout block buffer)) (h .image)
+step-number (visit layout block) new h c = visit-said (c .1) .0 ∙ ap (λ (l : List ℕ). answerNumber (visitAnswer l layout block)) (h .image)
+step-number (ask block) new h c = ask-said (c .1) .0 ∙ ap (λ (r : Record). placeNumber (asked r block .place)) (held h)
+step-number turn new h c = turn-said (c .1) .0 ∙ rw (held h, h .image)
+step-number (flip index bit) new h c = c .0
 
 ran-held : (steps : List Step) {old new : Kept} {state : State} → Holds old state → Ran steps old new → Holds new (after steps state)
 unfolding after
 ran-held [] h c = record { image = c .0 ∙ h .image; words = c .1 ∙ h .words }
-ran-held (step ∷ rest) h c = ran-held rest (step-held step h (c .1)) (c .2)
+ran-held (step ∷ rest) h c = ran-held rest (step-held step (c .0) h (c .2)) (c .3)
 
 pub followed : (image : List ℕ) (layout : Layout) (steps : List Step) {now : Kept} → RanFrom image layout steps now → Holds now (store image layout steps)
 followed image layout steps r =

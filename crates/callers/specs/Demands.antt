@@ -19,9 +19,9 @@ use Rattle.words.specs.Answers.{verdictWidth, visitWidth, reportWidth}
 use Rattle.words.specs.Records.{recordWidth, recordOf, recordWords}
 use Rattle.foldgrebe.specs.Calls.{WriteCall, ReadCall, VisitCall, FormatCall, AskCall, TurnCall}
 use Rattle.demands.specs.Demand2.{Visiting, Writing, Reading}
-use Rattle.demands.specs.Demand3.{FormatAccepted, NotFormatted, OneLayout, WordsWritten, FlipsSpaced}
-use Rattle.demands.specs.Steps.{Step, read, ask, turn, turns, fresh, lastWritten}
-use Rattle.callers.specs.Handing.{Kept, RanFrom}
+use Rattle.demands.specs.Demand3.{store, FormatAccepted, NotFormatted, OneLayout, WordsWritten, FlipsSpaced}
+use Rattle.demands.specs.Steps.{Step, read, ask, turn, turns, fresh, answers, lastWritten}
+use Rattle.callers.specs.Handing.{Kept, Called, RanFrom}
 
 -- a record as words, and words as a record: either way and back is the same
 pub record RoundTrips : Type 0 where
@@ -31,25 +31,25 @@ pub record RoundTrips : Type 0 where
 -- ---- demand 1: refused exactly for the stated reason, and then every lent word stays or, where it holds an answer, is 0
 
 -- a number by a table of refusals, and what holds where it is not 0
-pub record Refusing (rules : List Rule) (number : ℕ) (Else : Type 0) : Type 1 where
+pub record CallerRefusing (rules : List Rule) (number : ℕ) (Else : Type 0) : Type 1 where
   pub ruled : Ruled rules number
   pub unchanged : (number ≡ 0 → ⊥) → Else
 
 pub record CallerDemand1 : Type 1 where
   pub write : {image list after : List ℕ} {layout : Layout} {block number : ℕ} → WriteCall image layout block list number after
-      → Refusing (dataRules (length image) layout block (length list)) number (after ≡ image)
+      → CallerRefusing (dataRules (length image) layout block (length list)) number (after ≡ image)
   pub read : {image buffer kept after verdict : List ℕ} {layout : Layout} {block number : ℕ}
       → ReadCall image layout block buffer number kept after verdict
-      → Refusing (dataRules (length image) layout block (length buffer)) number
+      → CallerRefusing (dataRules (length image) layout block (length buffer)) number
       ((kept ≡ image) × (after ≡ buffer) × (verdict ≡ replicate verdictWidth 0))
   pub visit : {image after verdict : List ℕ} {layout : Layout} {block number : ℕ} → VisitCall image layout block number after verdict
-      → Refusing (blockRules (length image) layout block) number ((after ≡ image) × (verdict ≡ replicate verdictWidth 0))
+      → CallerRefusing (blockRules (length image) layout block) number ((after ≡ image) × (verdict ≡ replicate verdictWidth 0))
   pub format : {image after words : List ℕ} {layout : Layout} {number : ℕ} → FormatCall image layout number after words
-      → Refusing (imageRules (length image) layout) number ((after ≡ image) × (words ≡ replicate recordWidth 0))
+      → CallerRefusing (imageRules (length image) layout) number ((after ≡ image) × (words ≡ replicate recordWidth 0))
   pub ask : {lent words place : List ℕ} {block number : ℕ} → length lent ≡ recordWidth → AskCall lent block number words place
-      → Refusing (askRules (recordOf lent) block) number ((words ≡ lent) × (place ≡ 0 ∷ []))
+      → CallerRefusing (askRules (recordOf lent) block) number ((words ≡ lent) × (place ≡ 0 ∷ []))
   pub turn : {lent image words after report : List ℕ} {number : ℕ} → length lent ≡ recordWidth → TurnCall lent image number words after report
-      → Refusing (turnRules (recordOf lent) (length image)) number ((words ≡ lent) × (after ≡ image) × (report ≡ replicate reportWidth 0))
+      → CallerRefusing (turnRules (recordOf lent) (length image)) number ((words ≡ lent) × (after ≡ image) × (report ≡ replicate reportWidth 0))
 
 -- ---- demand 2: where the call is accepted, its words are those of an answer of which the demand holds
 
@@ -69,16 +69,24 @@ pub record CallerDemand2 : Type 0 where
 
 -- ---- demand 3: of whatever the caller keeps after a format and a list of steps
 
+-- every list of steps has a run, and in a run each call answers the number that the step has where it stands: so the hypotheses below, which
+-- speak of the steps, are those of the caller's own calls
+pub record CallerRuns : Type 0 where
+  pub runs : (image : List ℕ) (layout : Layout) (steps : List Step) → (now : Kept) × RanFrom image layout steps now
+  pub numbers : (image : List ℕ) (layout : Layout) (before : List Step) (step : Step) (old new : Kept) (number : ℕ) → RanFrom image layout before old
+      → Called step number old new
+      → number ≡ answers step (store image layout before)
+
 module _ (image : List ℕ) (layout : Layout) where
   -- a: every turn is accepted, and any N turns running visit every block: the report's first word names it
-  abbrev pub TurnsAccepted : Type 0
-  TurnsAccepted =
+  abbrev pub CallerTurnsAccepted : Type 0
+  CallerTurnsAccepted =
       FormatAccepted image layout → (steps : List Step) → NotFormatted image layout steps → (now : Kept) → RanFrom image layout steps now
       → (number : ℕ) (words after report : List ℕ) → TurnCall (now .words) (now .image) number words after report
       → number ≡ 0
 
-  abbrev pub EveryBlockVisited : Type 0
-  EveryBlockVisited =
+  abbrev pub CallerBlocksVisited : Type 0
+  CallerBlocksVisited =
       FormatAccepted image layout → (before during : List Step) → NotFormatted image layout (before ++ during)
       → blocks layout ≤ turns during
       → (block : ℕ) → block < blocks layout
@@ -88,8 +96,8 @@ module _ (image : List ℕ) (layout : Layout) where
       → getD report 0 0 ≡ block)
 
   -- b: the word of the ask's place is k, and the k-th turn after it names the block as the ask's, with a verdict
-  abbrev pub AskServed : Type 0
-  AskServed =
+  abbrev pub CallerAskServed : Type 0
+  CallerAskServed =
       (before between : List Step) (block : ℕ) → NotFormatted image layout (before ++ ask block ∷ between)
       → (earlier : Kept) → RanFrom image layout before earlier
       → (number : ℕ) (words place : List ℕ) → AskCall (earlier .words) block number words place
@@ -100,8 +108,8 @@ module _ (image : List ℕ) (layout : Layout) where
       → (answer ≡ 0) × (getD report visitWidth 0 ≡ block) × (getD report (suc visitWidth) 0 ≡ 0 → ⊥)
 
   -- c: every accepted read is not lost, and leaves in the buffer the data last written to the block, or zeros
-  abbrev pub ReadsRight : Type 0
-  ReadsRight =
+  abbrev pub CallerReadsRight : Type 0
+  CallerReadsRight =
       (steps : List Step) → OneLayout image layout steps → WordsWritten steps → FlipsSpaced image layout steps → NotFormatted image layout steps
       → (before rest : List Step) (named : Layout) (block : ℕ) (buffer : List ℕ) → steps ≡ before ++ read named block buffer ∷ rest
       → (now : Kept) → RanFrom image layout before now
@@ -110,7 +118,7 @@ module _ (image : List ℕ) (layout : Layout) where
       → (getD verdict 0 0 ≡ 3 → ⊥) × (left ≡ lastWritten block (replicate (wordsOf layout) 0) before (fresh image layout))
 
 pub record CallerDemand3 : Type 0 where
-  pub turns-accepted : (image : List ℕ) (layout : Layout) → TurnsAccepted image layout
-  pub every-block-visited : (image : List ℕ) (layout : Layout) → EveryBlockVisited image layout
-  pub ask-served : (image : List ℕ) (layout : Layout) → AskServed image layout
-  pub reads-right : (image : List ℕ) (layout : Layout) → ReadsRight image layout
+  pub turns-accepted : (image : List ℕ) (layout : Layout) → CallerTurnsAccepted image layout
+  pub every-block-visited : (image : List ℕ) (layout : Layout) → CallerBlocksVisited image layout
+  pub ask-served : (image : List ℕ) (layout : Layout) → CallerAskServed image layout
+  pub reads-right : (image : List ℕ) (layout : Layout) → CallerReadsRight image layout

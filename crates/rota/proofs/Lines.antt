@@ -4,7 +4,7 @@ use mathlib.Core.Bool.{Bool, true, false, _&&_}
 use mathlib.Core.Path.{_≡_, refl, sym, ap, _∙_}
 use mathlib.Core.List.{List, [], _∷_, _++_, append-assoc}
 use native.Mathlib.Omega.{arith}
-use lib.ListN.{length, drop, set, replicate, length-take, length-drop, length-append, take-append-drop, replicate-append-replicate}
+use lib.ListN.{length, drop, set, replicate, length-take, length-drop, length-append, length-replicate, take-append-drop, replicate-append-replicate}
 use lib.Seq.{length-take-le, take-append-seam, drop-append-seam, set-append-seam, append-snoc}
 use lib.Dec.{leb}
 use borrow.Author.Tests.{leb-true, leb-false, le-leb, lt-leb}
@@ -46,6 +46,9 @@ module _ (capacity : ℕ) where
   sound-is n line h t u e f = rw (le-leb (line .waiting) capacity h, e, f)
 
   -- ---- a list, and the line that says it
+
+  pub said-long : (l : List ℕ) → length l ≤ capacity → length (lineOf capacity l .asks) ≡ capacity
+  said-long l h = length-append l (replicate (capacity - length l) 0) ∙ omega (arith, length-replicate {A = ℕ} (capacity - length l) 0)
 
   pub list-said : (l : List ℕ) → asksOf (lineOf capacity l) ≡ l
   list-said l = take-append-seam l (replicate (capacity - length l) 0)

@@ -65,6 +65,10 @@ module _ (capacity : ℕ) where
         go true e (suc k) f u g = rw (eqb·suc-zero k) (record { inside = s .inside; few = s .few; low = s .low; once = s .once })
 
     -- an ask adds at the end, if anywhere
+    pub ask-few : Sound n p → askRefusal capacity n p b ≡ 0 → length (joined p b .asks) ≤ capacity
+    unfolding askAfter
+    ask-few s z = (rw z at ask-sound s) .few
+
     pub ask-adds : (l : List ℕ) × (askAfter n p b .asks ≡ p .asks ++ l) × (askAfter n p b .next ≡ p .next)
     unfolding askAfter
     ask-adds = go (askRefusal capacity n p b) (place b (p .asks))

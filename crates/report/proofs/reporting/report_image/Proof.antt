@@ -94,7 +94,7 @@ found : (c : tie.After-visit-accepted Inv-loop μ-loop) → c .visit-accepted .r
 found c =
     let at = turn c .before in
     let k = at .loop .k in
-    accepted-verdict _ _ _ (c .visit-accepted .ensures)
+    accepted-verdict _ _ k (c .visit-accepted .ensures)
     ∙ ap (λ (image : List ℕ). verdictIn (answers (start at) image k)) (at .loop .inv .1)
     ∙ finds (start at) k (omega (arith, turn c .loop-test .taken, known at .blocks2 .ensures))
 
