@@ -6,23 +6,28 @@ use lib.ListN.{length, getD, replicate}
 use Rattle.ground.specs.Choice.{ifZero}
 use Rattle.ground.specs.Rules.{Rule, Ruled}
 use Rattle.ground.proofs.Choices.{refused-kept}
+use Rattle.block.specs.Block.{Fitting}
 use Rattle.block.specs.Verdict.{Said, unsaid, saidWords}
 use Rattle.layout.specs.declared.Layout.{Layout}
 use Rattle.layout.specs.Reason.{imageRules, blockRules}
 use Rattle.store.specs.Reason.{dataRules}
 use Rattle.store.specs.Read.{readAnswer, readBuffer}
-use Rattle.store.specs.Visit.{visitAnswer}
-use Rattle.store.proofs.Promises.{reads}
+use Rattle.store.specs.Visit.{visitAnswer, visitAfter}
+use Rattle.store.specs.declared.Answer.{Answer}
+use Rattle.store.specs.Answer.{answerWords}
+use Rattle.store.proofs.Promises.{writes, reads, visits}
 use Rattle.patrol.specs.declared.Record.{Record}
 use Rattle.patrol.specs.Format.{formatted}
 use Rattle.patrol.specs.Turn.{turnRefused}
 use Rattle.patrol.specs.Numbers.{Seen, unseen, seenWords, reportNumber, reportWords}
 use Rattle.patrol.specs.Reason.{askRules, turnRules}
+use Rattle.patrol.proofs.Promises.{formats, asks, turns}
 use Rattle.words.specs.Answers.{verdictWidth, reportWidth}
 use Rattle.words.specs.Records.{recordWidth, recordOf, recordWords}
 use Rattle.words.proofs.RoundTrip.{same-words, same-record}
 use Rattle.foldgrebe.specs.Calls.{WriteCall, ReadCall, VisitCall, FormatCall, AskCall, TurnCall}
 use Rattle.demands.specs.Steps.{Step, ask, report}
+use Rattle.demands.specs.Demand2.{Visiting, Writing, Reading}
 use Rattle.demands.specs.Demand3.{store}
 use Rattle.demands.proofs.Demand1.{demand-1}
 use Rattle.demands.proofs.Demand2.{demand-2}
@@ -60,21 +65,21 @@ module _ {image : List ℕ} {layout : Layout} {block number : ℕ} where
   write-refuses : {list after : List ℕ} → WriteCall image layout block list number after
       → CallerRefusing (dataRules (length image) layout block (length list)) number (after ≡ image)
   write-refuses {list} c =
-      let d = demand-1 .write image layout block list in
+      let d = demand-1 .write image layout block list _ _ (writes image layout block list refl refl) in
       refusing (write-said c) (d .ruled) (λ ne. c .leaves ∙ d .unchanged ne)
 
   read-refuses : {buffer kept after verdict : List ℕ} → ReadCall image layout block buffer number kept after verdict
       → CallerRefusing (dataRules (length image) layout block (length buffer)) number
       ((kept ≡ image) × (after ≡ buffer) × (verdict ≡ replicate verdictWidth 0))
   read-refuses {buffer} c =
-      let d = demand-1 .read image layout block buffer in
+      let d = demand-1 .read image layout block buffer _ _ _ (reads image layout block buffer refl refl) in
       let told = read-said c .0 in
       refusing told (d .ruled) (λ ne. (c .keeps, c .leaves ∙ d .unchanged ne, c .says ∙ none-said _ _ (λ z. ne (sym told ∙ c .answers ∙ z))))
 
   visit-refuses : {after verdict : List ℕ} → VisitCall image layout block number after verdict
       → CallerRefusing (blockRules (length image) layout block) number ((after ≡ image) × (verdict ≡ replicate verdictWidth 0))
   visit-refuses c =
-      let d = demand-1 .visit image layout block in
+      let d = demand-1 .visit image layout block _ _ (visits image layout block refl refl) in
       let told = visit-said c .0 in
       refusing told (d .ruled) (λ ne. (c .leaves ∙ d .unchanged ne, c .says ∙ none-said _ _ (λ z. ne (sym told ∙ c .answers ∙ z))))
 
@@ -82,13 +87,13 @@ format-refuses : {image after words : List ℕ} {layout : Layout} {number : ℕ}
     → CallerRefusing (imageRules (length image) layout) number ((after ≡ image) × (words ≡ replicate recordWidth 0))
 unfolding formatted
 format-refuses {image} {after} {words} {layout} c =
-    let d = demand-1 .format image layout in
+    let d = demand-1 .format image layout _ _ (formats image layout refl refl) in
     refusing (c .answers) (d .ruled) (λ ne. let kept = d .unchanged ne in (c .leaves ∙ kept .1, c .back ∙ ap recordWords (kept .0)))
 
 ask-refuses : {lent words place : List ℕ} {block number : ℕ} → length lent ≡ recordWidth → AskCall lent block number words place
     → CallerRefusing (askRules (recordOf lent) block) number ((words ≡ lent) × (place ≡ 0 ∷ []))
 ask-refuses {lent} {words} {place} {block} size c =
-    let d = demand-1 .ask (recordOf lent) block in
+    let d = demand-1 .ask (recordOf lent) block _ (asks (recordOf lent) block refl) in
     let told = ask-said c in
     refusing (told .0) (d .ruled)
     (λ ne. (
@@ -99,7 +104,7 @@ ask-refuses {lent} {words} {place} {block} size c =
 turn-refuses : {lent image words after report : List ℕ} {number : ℕ} → length lent ≡ recordWidth → TurnCall lent image number words after report
     → CallerRefusing (turnRules (recordOf lent) (length image)) number ((words ≡ lent) × (after ≡ image) × (report ≡ replicate reportWidth 0))
 turn-refuses {lent} {image} size c =
-    let d = demand-1 .turn (recordOf lent) image in
+    let d = demand-1 .turn (recordOf lent) image _ _ (turns (recordOf lent) image refl refl) in
     let told = turn-said c .0 in
     refusing told (d .ruled)
     (λ ne.
@@ -115,18 +120,31 @@ caller-demand-1 =
 
 -- ---- demand 2
 
+module _ {image : List ℕ} {layout : Layout} {block number : ℕ} where
+  visit-mends : {after verdict : List ℕ} → Fitting image → VisitCall image layout block number after verdict → number ≡ 0
+      → (answer : Answer) × Visiting image layout block answer after × (verdict ≡ answerWords answer)
+  visit-mends fits c z =
+      let told = visit-said c in
+      let d = demand-2 .visit image layout block _ _ fits (visits image layout block refl refl) (sym (told .0) ∙ z) in
+      (visitAnswer image layout block, rw (c .leaves) d, told .1)
+
+  write-stores : {list after : List ℕ} → Fitting list → WriteCall image layout block list number after → number ≡ 0
+      → Writing image layout block list after
+  write-stores {list} fits c z =
+      rw (c .leaves) (demand-2 .write image layout block list _ _ fits (writes image layout block list refl refl) (sym (write-said c) ∙ z))
+
+  read-mends : {buffer kept after verdict : List ℕ} → Fitting image → ReadCall image layout block buffer number kept after verdict → number ≡ 0
+      → (kept ≡ image)
+      × (answer : Answer) × Reading layout block buffer answer after (visitAnswer image layout block) (visitAfter image layout block)
+      × (verdict ≡ answerWords answer)
+  read-mends {buffer} fits c z =
+      let told = read-said c in
+      let d = demand-2 .read image layout block buffer _ _ _ fits (reads image layout block buffer refl refl) (sym (told .0) ∙ z) _ _
+      (visits image layout block refl refl) in
+      (c .keeps, readAnswer image layout block buffer, rw (c .leaves) d, told .1)
+
 pub caller-demand-2 : CallerDemand2
-caller-demand-2 =
-    record {
-      visit = λ {image} {after} {verdict} {layout} {block} fits c z.
-          let told = visit-said c in
-          (visitAnswer image layout block, rw (c .leaves) (demand-2 .visit image layout block fits (sym (told .0) ∙ z)), told .1);
-      write = λ {image} {list} {after} {layout} {block} fits c z.
-          rw (c .leaves) (demand-2 .write image layout block list fits (sym (write-said c) ∙ z));
-      read = λ {image} {buffer} {kept} {after} {verdict} {layout} {block} fits c z.
-          let told = read-said c in
-          (c .keeps, readAnswer image layout block buffer, rw (c .leaves) (demand-2 .read image layout block buffer fits (sym (told .0) ∙ z)), told .1);
-    }
+caller-demand-2 = record { visit = visit-mends; write = write-stores; read = read-mends }
 
 -- ---- demand 3
 

@@ -82,7 +82,8 @@ step-held turn number h c =
 step-held (flip index bit) number h c = record { image = c .1 ∙ ap (flipped index bit) (h .image); words = c .2 ∙ h .words }
 
 -- the number that a call answers is the step's
-pub step-number : (step : Step) {number : ℕ} {old : Kept} (new : Kept) {state : State} → Holds old state → Called step number old new → number ≡ answers step state
+pub step-number : (step : Step) {number : ℕ} {old : Kept} (new : Kept) {state : State} → Holds old state → Called step number old new
+    → number ≡ answers step state
 step-number (format layout) {number} {old} new h c =
     format-words (old .image) layout (c .1) .0 ∙ ap (λ (l : List ℕ). formatted l layout .number) (h .image)
 step-number (write layout block list) new h c = write-said (c .0) ∙ ap (λ (l : List ℕ). answerNumber (writeAnswer l layout block list)) (h .image)

@@ -19,11 +19,15 @@ use Rattle.store.specs.Read.{readAnswer, readBuffer}
 use Rattle.store.specs.Visit.{visitAnswer, visitAfter}
 use Rattle.store.proofs.Answers.{answered-number, answered-refused}
 use Rattle.store.proofs.Ladder.{data-first}
+use Rattle.store.proofs.Promises.{writes-answer, reads-answer, visits-answer}
+use Rattle.store.specs.Fresh.{freshAfter}
 use Rattle.patrol.specs.declared.Record.{Record}
 use Rattle.patrol.specs.declared.Report.{Report}
 use Rattle.patrol.specs.Numbers.{unseen, reportNumber, reportFirst, reportSecond}
+use Rattle.patrol.specs.Format.{formatted}
 use Rattle.patrol.specs.Ask.{asked}
-use Rattle.patrol.specs.Turn.{turned}
+use Rattle.patrol.specs.Turn.{turned, turnAfter}
+use Rattle.patrol.proofs.Promises.{formats-answer, asks-answer, turns-answer}
 use Rattle.patrol.proofs.Numbers.{place-bare, report-bare}
 use Rattle.patrol.proofs.Unchanged.{format-unchanged, ask-unchanged, turn-unchanged}
 use Rattle.patrol.proofs.Reasons.{format-first, ask-first, turn-first}
@@ -60,11 +64,11 @@ module _ (image : List ℕ) (layout : Layout) (block : ℕ) where
   unfolding visitAnswer visitAfter
   visit-refuses = refusing _ _ _ refl tt (block-first layout (length image) block) _ image
 
-pub format-refuses : (image : List ℕ) (layout : Layout) → FormatRefusing image layout
+pub format-refuses : (image : List ℕ) (layout : Layout) → FormatRefusing image layout (formatted image layout) (freshAfter image layout)
 format-refuses image layout =
     record { ruled = ruled _ _ tt (format-first image layout); unchanged = format-unchanged image layout }
 
-pub ask-refuses : (r : Record) (block : ℕ) → AskRefusing r block
+pub ask-refuses : (r : Record) (block : ℕ) → AskRefusing r block (asked r block)
 ask-refuses r block =
     record { ruled = ruled _ _ tt (ask-first r block); bare = place-bare (asked r block .place); unchanged = ask-unchanged r block }
 
@@ -74,10 +78,18 @@ turn-bare report ne =
     let bare = report-bare report ne in
     (subst Bare (sym (bare .0)) none, subst Bare (sym (bare .1)) none)
 
-pub turn-refuses : (r : Record) (image : List ℕ) → TurnRefusing r image
+pub turn-refuses : (r : Record) (image : List ℕ) → TurnRefusing r image (turned r image) (turnAfter r image)
 turn-refuses r image =
     record { ruled = ruled _ _ tt (turn-first r image); bare = turn-bare (turned r image .report); unchanged = turn-unchanged r image }
 
+-- what a promise allows is what the call answers and leaves
 pub demand-1 : Demand1
 demand-1 =
-    record { write = write-refuses; read = read-refuses; visit = visit-refuses; format = format-refuses; ask = ask-refuses; turn = turn-refuses }
+    record {
+      write = λ image layout block list answer after p. rw (writes-answer image layout block list p, p .leaves) (write-refuses image layout block list);
+      read = λ image layout block buffer answer kept after p. rw (reads-answer image layout block buffer p, p .leaves) (read-refuses image layout block buffer);
+      visit = λ image layout block answer after p. rw (visits-answer image layout block p, p .leaves) (visit-refuses image layout block);
+      format = λ image layout answer after p. rw (formats-answer image layout p, p .leaves) (format-refuses image layout);
+      ask = λ r block answer p. rw (asks-answer r block p) (ask-refuses r block);
+      turn = λ r image answer after p. let e = turns-answer r image p in rw (e .0, e .1) (turn-refuses r image);
+    }

@@ -1,6 +1,6 @@
 -- Demand 2 holds of write, read and visit, for every image and block. Assumes nothing.
 use Prim.Native.Nat.{ℕ, _≤_}
-use mathlib.Core.Path.{_≡_, refl, sym, _∙_}
+use mathlib.Core.Path.{_≡_, refl, sym, ap, _∙_}
 use mathlib.Core.List.{List}
 use lib.ListN.{length}
 use Rattle.ground.proofs.Choices.{refused-kept}
@@ -13,12 +13,15 @@ use Rattle.block.proofs.ValidBlocks.{valid-is, holds-data, valid-only}
 use Rattle.layout.specs.declared.Layout.{Layout}
 use Rattle.layout.specs.Layout.{shapeOf}
 use Rattle.layout.specs.Refusal.{blockRefusal}
+use Rattle.store.specs.declared.Answer.{Answer}
 use Rattle.store.specs.declared.Answer.the-variants.{Found}
+use Rattle.store.specs.Answer.{answerNumber}
 use Rattle.store.specs.Image.{gathered}
 use Rattle.store.specs.Refusal.{dataRefusal}
-use Rattle.store.specs.Write.{writeAfter}
-use Rattle.store.specs.Read.{readAnswer, readBuffer, mendedData}
-use Rattle.store.specs.Visit.{visitAnswer, visitAfter}
+use Rattle.store.specs.Write.{writeAfter, Writes}
+use Rattle.store.specs.Read.{readAnswer, readBuffer, mendedData, Reads}
+use Rattle.store.specs.Visit.{visitAnswer, visitAfter, Visits}
+use Rattle.store.proofs.Promises.{writes-answer, reads-answer, visits-answer}
 use Rattle.store.proofs.After.{visit-held, visit-untouched, write-held, write-untouched}
 use Rattle.store.proofs.Image.{length-gathered, gathered-words, placed-gathered}
 use Rattle.store.proofs.Ladder.{data-accepted}
@@ -87,12 +90,33 @@ module _ (image : List ℕ) (layout : Layout) (block : ℕ) where
         stays = λ l. refused-kept (lanesLost shape found) (dataOf shape (mendedBlock shape found)) buffer (lost-same shape found small long l);
       })
 
--- a call that answers number 0 was not refused
+-- what a promise allows is what the call answers and leaves; a call that answers number 0 was not refused
+module _ (image : List ℕ) (layout : Layout) (block : ℕ) (answer : Answer) where
+  visit-allowed : (after : List ℕ) → Fitting image → Visits image layout block answer after → answerNumber answer ≡ 0
+      → Visiting image layout block answer after
+  visit-allowed after fits p z =
+      let e = visits-answer image layout block p in
+      rw (e, p .leaves) (visit-mends image layout block fits (sym (visit-number image layout block) ∙ sym (ap answerNumber e) ∙ z))
+
+  write-allowed : (list after : List ℕ) → Fitting list → Writes image layout block list answer after → answerNumber answer ≡ 0
+      → Writing image layout block list after
+  write-allowed list after fits p z =
+      let e = writes-answer image layout block list p in
+      rw (p .leaves) (write-stores image layout block list fits (sym (write-number image layout block list) ∙ sym (ap answerNumber e) ∙ z))
+
+  read-allowed : (buffer kept filled : List ℕ) → Fitting image → Reads image layout block buffer answer kept filled → answerNumber answer ≡ 0
+      → (visited : Answer) (after : List ℕ) → Visits image layout block visited after
+      → Reading layout block buffer answer filled visited after
+  read-allowed buffer kept filled fits p z visited after q =
+      let e = reads-answer image layout block buffer p in
+      rw (e, p .leaves, visits-answer image layout block q, q .leaves)
+      (read-mends image layout block fits buffer (sym (read-number image layout block buffer) ∙ sym (ap answerNumber e) ∙ z))
+
 pub demand-2 : Demand2
 demand-2 =
     record {
-      visit = λ image layout block fits a. visit-mends image layout block fits (sym (visit-number image layout block) ∙ a);
-      write = λ image layout block list fits a. write-stores image layout block list fits (sym (write-number image layout block list) ∙ a);
-      read = λ image layout block buffer fits a. read-mends image layout block fits buffer (sym (read-number image layout block buffer) ∙ a);
-      read-leaves = λ image layout block buffer answer kept left promise. promise .keeps;
+      visit = visit-allowed;
+      write = λ image layout block list answer after. write-allowed image layout block answer list after;
+      read = λ image layout block buffer answer kept filled. read-allowed image layout block answer buffer kept filled;
+      read-leaves = λ image layout block buffer answer kept filled p. p .keeps;
     }

@@ -18,9 +18,9 @@ use Rattle.layout.specs.Layout.{shapeOf}
 use Rattle.store.specs.declared.Answer.{Answer}
 use Rattle.store.specs.Answer.{answerNumber, answerVerdict, answerCount}
 use Rattle.store.specs.Image.{gathered, Untouched}
-use Rattle.store.specs.Write.{writeAnswer, writeAfter}
-use Rattle.store.specs.Read.{readAnswer, readBuffer, Reads}
-use Rattle.store.specs.Visit.{visitAnswer, visitAfter}
+use Rattle.store.specs.Write.{Writes}
+use Rattle.store.specs.Read.{Reads}
+use Rattle.store.specs.Visit.{Visits}
 
 -- what a found block may have been meant to be: a valid block that differs from it in at most one bit a lane
 pub record Meant (shape : Shape) (found meant : List ℕ) : Type 0 where
@@ -89,17 +89,22 @@ pub record Reading (layout : Layout) (block : ℕ) (buffer : List ℕ) (answer :
   pub mended : (SaysLost answer → ⊥) → filled ≡ dataOf (shapeOf layout) (gathered layout block after)
   pub stays : SaysLost answer → filled ≡ buffer
 
--- the demand: of every image of 32-bit words and every block, where the call is accepted
+-- the demand: of every image of 32-bit words and every block, where the call is accepted, and of all that its promise allows
 pub record Demand2 : Type 0 where
-  pub visit : (image : List ℕ) (layout : Layout) (block : ℕ) → Fitting image → answerNumber (visitAnswer image layout block) ≡ 0
-      → Visiting image layout block (visitAnswer image layout block) (visitAfter image layout block)
-  pub write : (image : List ℕ) (layout : Layout) (block : ℕ) (list : List ℕ) → Fitting list → answerNumber (writeAnswer image layout block list) ≡ 0
-      → Writing image layout block list (writeAfter image layout block list)
-  pub read : (image : List ℕ) (layout : Layout) (block : ℕ) (buffer : List ℕ) → Fitting image → answerNumber (readAnswer image layout block buffer) ≡ 0
-      → Reading layout block buffer (readAnswer image layout block buffer) (readBuffer image layout block buffer)
-      (visitAnswer image layout block)
-      (visitAfter image layout block)
+  pub visit : (image : List ℕ) (layout : Layout) (block : ℕ) (answer : Answer) (after : List ℕ) → Fitting image
+      → Visits image layout block answer after
+      → answerNumber answer ≡ 0
+      → Visiting image layout block answer after
+  pub write : (image : List ℕ) (layout : Layout) (block : ℕ) (list : List ℕ) (answer : Answer) (after : List ℕ) → Fitting list
+      → Writes image layout block list answer after
+      → answerNumber answer ≡ 0
+      → Writing image layout block list after
+  pub read : (image : List ℕ) (layout : Layout) (block : ℕ) (buffer : List ℕ) (answer : Answer) (kept filled : List ℕ) → Fitting image
+      → Reads image layout block buffer answer kept filled
+      → answerNumber answer ≡ 0
+      → (visited : Answer) (after : List ℕ) → Visits image layout block visited after
+      → Reading layout block buffer answer filled visited after
   -- accepted or refused, it leaves the image
-  pub read-leaves : (image : List ℕ) (layout : Layout) (block : ℕ) (buffer : List ℕ) (answer : Answer) (kept left : List ℕ)
-      → Reads image layout block buffer answer kept left
+  pub read-leaves : (image : List ℕ) (layout : Layout) (block : ℕ) (buffer : List ℕ) (answer : Answer) (kept filled : List ℕ)
+      → Reads image layout block buffer answer kept filled
       → kept ≡ image
