@@ -8,8 +8,8 @@
    Use: format once, write and read blocks by number, and call turn again and again, which patrols the image: each turn
    visits (checks and mends) the next block and one block that was asked for. If at least N turns lie between two flips
    in the same lane of the same block, every read gives what was last written; so long as the record is handed from call
-   to call, every call names the layout that was formatted, no later format is accepted, and one that is refused was lent
-   other words than this record.
+   to call, every call that is accepted lends the whole image and names its layout, no later format is accepted, one that
+   is refused was lent other words than this record, and nothing but single flips changes the image otherwise.
 
    Every call answers a number: 0 where it is accepted, or the first refusal, in the order given with the call:
      1  shape is not 1 or 2                      5  the record is broken

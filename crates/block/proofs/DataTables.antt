@@ -16,7 +16,7 @@ use Rattle.block.specs.Inner.{copiedInto}
 use Rattle.block.specs.DataTables.{DataTable}
 use Rattle.block.proofs.Data.{before-digits, data-count}
 
--- the tables of the code: a proof that cites one of them is refused where the code has another
+-- the tables of the code, which it does not name to a proof: each proof that cites one shows that the code's own table is the same
 abbrev pub dataOne : List ℕ
 dataOne =
     3 ∷ 5 ∷ 6 ∷ 7 ∷ 9 ∷ 10 ∷ 11 ∷ 12 ∷ 13 ∷ 14 ∷ 15 ∷ []
@@ -49,19 +49,21 @@ data-two = rows-table Two
 -- ---- what the functions use of a table
 
 module _ {shape : Shape} {table : List ℕ} (t : DataTable shape table) where
-  table-count : length table ≡ words shape
-  table-count = ap length (t .is) ∙ data-count shape
-
-  -- data words spread over its rows are the shape's data block
-  pub table-spread : (list : List ℕ) → stores blank (λ k. getD table k 0 - 1) (λ k. getD list k 0) (length table) ≡ dataBlock shape list
+  -- data words spread over the rows of this very table are the shape's data block
+  pub table-spread : (code list : List ℕ) {placed : List ℕ} → placed ≡ stores blank (λ k. getD code k 0 - 1) (λ k. getD list k 0) (length code)
+      → code ≡ table
+      → placed ≡ dataBlock shape list
   unfolding dataBlock
-  table-spread list =
-      ap (stores blank (λ k. getD table k 0 - 1) (λ k. getD list k 0)) table-count
-      ∙ ap (λ (l : List ℕ). stores blank (λ k. getD l k 0 - 1) (λ k. getD list k 0) (words shape)) (t .is)
+  table-spread code list e same =
+      e
+      ∙ ap (λ (l : List ℕ). stores blank (λ k. getD l k 0 - 1) (λ k. getD list k 0) (length l)) (same ∙ t .is)
+      ∙ ap (stores blank (λ k. getD (dataRowsOf shape) k 0 - 1) (λ k. getD list k 0)) (data-count shape)
 
   -- and its rows copied to a buffer are the shape's data
-  pub table-copied : (block buffer : List ℕ) → copiedInto table block buffer ≡ dataInto shape block buffer
+  pub table-copied : (code block buffer : List ℕ) {copied : List ℕ} → copied ≡ copiedInto code block buffer → code ≡ table
+      → copied ≡ dataInto shape block buffer
   unfolding copiedInto dataInto
-  table-copied block buffer =
-      ap (stores buffer (λ k. k) (λ k. row (getD table k 0) block)) table-count
-      ∙ ap (λ (l : List ℕ). stores buffer (λ k. k) (λ k. row (getD l k 0) block) (words shape)) (t .is)
+  table-copied code block buffer e same =
+      e
+      ∙ ap (λ (l : List ℕ). stores buffer (λ k. k) (λ k. row (getD l k 0) block) (length l)) (same ∙ t .is)
+      ∙ ap (stores buffer (λ k. k) (λ k. row (getD (dataRowsOf shape) k 0) block)) (data-count shape)

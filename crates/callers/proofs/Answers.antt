@@ -54,8 +54,9 @@ turn-said {lent} {image} c =
 
 -- ---- what the words of a report name
 
-pub patrol-named : (block : ℕ) (report : Report) → PatrolVisits block report → getD (reportWords report) 0 0 ≡ block
-patrol-named block report h = h .1 .0
+pub patrol-named : (block : ℕ) (report : Report) → PatrolVisits block report
+    → (reportNumber report ≡ 0) × (getD (reportWords report) 0 0 ≡ block) × (getD (reportWords report) 1 0 ≡ 0 → ⊥)
+patrol-named block report h = (h .0, h .1 .0, h .1 .1)
 
 pub ask-named : (block : ℕ) (report : Report) → AskVisits block report
     → (reportNumber report ≡ 0) × (getD (reportWords report) visitWidth 0 ≡ block) × (getD (reportWords report) (suc visitWidth) 0 ≡ 0 → ⊥)

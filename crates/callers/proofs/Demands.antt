@@ -18,7 +18,7 @@ use Rattle.store.specs.Answer.{answerWords}
 use Rattle.store.proofs.Promises.{writes, reads, visits}
 use Rattle.patrol.specs.declared.Record.{Record}
 use Rattle.patrol.specs.Format.{formatted}
-use Rattle.patrol.specs.Turn.{turnRefused}
+use Rattle.patrol.specs.Turn.{turned, turnAfter, turnRefused, Turns}
 use Rattle.patrol.specs.Numbers.{Seen, unseen, seenWords, reportNumber, reportWords}
 use Rattle.patrol.specs.Reason.{askRules, turnRules}
 use Rattle.patrol.proofs.Promises.{formats, asks, turns}
@@ -161,19 +161,25 @@ module _ (image : List ℕ) (layout : Layout) where
       let h = followed image layout steps r in
       rw (← held h, ← h .image) (turn-said c)
 
+  -- what a turn of the state answers
+  turned-so : (steps : List Step) → let state = store image layout steps in
+      Turns (state .patrol) (state .image) (turned (state .patrol) (state .image)) (turnAfter (state .patrol) (state .image))
+  turned-so steps = turns (store image layout steps .patrol) (store image layout steps .image) refl refl
+
   turns-accepted : CallerTurnsAccepted image layout
   turns-accepted formatted steps none now r number words after said c =
-      reported steps now r number words after said c .0 ∙ demand-3 .turns-accepted image layout formatted steps none
+      reported steps now r number words after said c .0 ∙ demand-3 .turns-accepted image layout formatted steps none _ _ (turned-so steps)
 
   every-block-visited : CallerBlocksVisited image layout
   every-block-visited formatted before during none enough block inside =
-      let found = demand-3 .every-block-visited image layout formatted before during none enough block inside in (
+      let found = demand-3 .every-block-visited image layout formatted before during none enough block inside in
+      let named = patrol-named block (report (store image layout (before ++ found .0))) (found .3 _ _ (turned-so (before ++ found .0))) in (
         found .0,
         found .1,
         found .2,
         λ now r number words after said c.
-            ap (λ (l : List ℕ). getD l 0 0) (reported (before ++ found .0) now r number words after said c .1)
-            ∙ patrol-named block (report (store image layout (before ++ found .0))) (found .3),
+            let told = reported (before ++ found .0) now r number words after said c in
+            rw (told .0, told .1) named,
       )
 
   ask-served : CallerAskServed image layout
@@ -182,7 +188,12 @@ module _ (image : List ℕ) (layout : Layout) where
       let heard = ask-said c in
       let asking = rw (held h) at heard in
       let kth = k ∙ ap (λ (l : List ℕ). getD l 0 0) (asking .1) in
-      let serves = demand-3 .ask-served image layout before between block none (sym (asking .0) ∙ z) kth in
+      let serves = demand-3 .ask-served image layout before between block none _ (asks (store image layout before .patrol) block refl)
+      (sym (asking .0) ∙ z)
+      kth
+      _
+      _
+      (turned-so (before ++ ask block ∷ between)) in
       let named = ask-named block (report (store image layout (before ++ ask block ∷ between))) serves in
       let told = reported (before ++ ask block ∷ between) now r answer handed after said d in
       rw (told .0, told .1) named

@@ -78,7 +78,7 @@ pub record CallerRuns : Type 0 where
       → number ≡ answers step (store image layout before)
 
 module _ (image : List ℕ) (layout : Layout) where
-  -- a: every turn is accepted, and any N turns running visit every block: the report's first word names it
+  -- a: every turn is accepted, and any N turns running visit every block: the report's first word names it, the next is its verdict
   abbrev pub CallerTurnsAccepted : Type 0
   CallerTurnsAccepted =
       FormatAccepted image layout → (steps : List Step) → NotFormatted image layout steps → (now : Kept) → RanFrom image layout steps now
@@ -93,7 +93,7 @@ module _ (image : List ℕ) (layout : Layout) where
       → (first rest : List Step) × (during ≡ first ++ turn ∷ rest)
       × ((now : Kept) → RanFrom image layout (before ++ first) now
       → (number : ℕ) (words after report : List ℕ) → TurnCall (now .words) (now .image) number words after report
-      → getD report 0 0 ≡ block)
+      → (number ≡ 0) × (getD report 0 0 ≡ block) × (getD report 1 0 ≡ 0 → ⊥))
 
   -- b: the word of the ask's place is k, and the k-th turn after it names the block as the ask's, with a verdict
   abbrev pub CallerAskServed : Type 0

@@ -1,7 +1,7 @@
 -- Every worked example holds of the definitions: the laws turn each into words, and the words are computed. Assumes nothing.
 use Prim.Native.Nat.{ℕ, suc, _+_}
 use mathlib.Core.Bool.{true}
-use mathlib.Core.Path.{_≡_, refl, ap, ap₂, _∙_}
+use mathlib.Core.Path.{_≡_, refl, sym, ap, ap₂, _∙_}
 use mathlib.Core.List.{List, _∷_, _++_, map}
 use native.Mathlib.Omega.{arith}
 use lib.Bits.{bitXor, bitOr}
@@ -17,8 +17,9 @@ use Rattle.block.specs.declared.Verdict.the-variants.{Mended, Lost}
 use Rattle.shape.specs.Shape.{before}
 use Rattle.block.specs.Words.{number}
 use Rattle.block.specs.Block.{dataBlock, validBlock, mendedBlock}
-use Rattle.block.specs.Verdict.{verdictOf, verdictWords}
+use Rattle.block.specs.Verdict.{Said, toSay, saidWords, verdictOf, verdictWords}
 use Rattle.block.specs.Inner.{xorOver, sumsOf, anyOf, aboveOf, lostLanes, flippedIn, xorAll, withChecks}
+use Rattle.block.proofs.Verdicts.{verdict-says}
 use Rattle.block.proofs.ByWords.{fit?, bits, written, lost-by-words, mended-by-words}
 use Rattle.layout.specs.Layout.{shapeNumbered}
 use Rattle.demands.specs.Examples.{Example, examples, upTo}
@@ -33,9 +34,11 @@ module _ (shape : Shape) where
   wrote list block fit e = written shape list fit ∙ e
 
   said : (found after : List ℕ) (v : Verdict) → (verdictOf shape found ≡ v) × (mendedBlock shape found ≡ after)
-      → _≡_ {A = List ℕ} (verdictWords (verdictOf shape found) ++ mendedBlock shape found)
+      → _≡_ {A = List ℕ} (saidWords (toSay shape found) ++ mendedBlock shape found)
       (verdictWords v ++ after)
-  said found after v e = ap₂ (λ (w : Verdict) (l : List ℕ). verdictWords w ++ l) (e .0) (e .1)
+  said found after v e =
+      ap (λ (s : Said). saidWords s ++ mendedBlock shape found) (sym (verdict-says shape found))
+      ∙ ap₂ (λ (w : Verdict) (l : List ℕ). verdictWords w ++ l) (e .0) (e .1)
 
   module _ (found : List ℕ) (fit : fit? found ≡ true) (long : length found ≡ 72) where
     abbrev lostWord : ℕ
@@ -43,7 +46,7 @@ module _ (shape : Shape) where
 
     -- a lost block, by the word of its lost lanes
     was-lost : (w n : ℕ) → lostWord ≡ suc w → bits lostWord ≡ n
-        → _≡_ {A = List ℕ} (verdictWords (verdictOf shape found) ++ mendedBlock shape found) (verdictWords (Lost n) ++ found)
+        → _≡_ {A = List ℕ} (saidWords (toSay shape found) ++ mendedBlock shape found) (verdictWords (Lost n) ++ found)
     was-lost w n e c =
         said found found _ (lost-by-words shape found fit long (λ z. omega (arith, e))) ∙ ap (λ (k : ℕ). verdictWords (Lost k) ++ found) c
 
@@ -51,7 +54,7 @@ module _ (shape : Shape) where
     was-mended : (n w : ℕ) (after : List ℕ) → lostWord ≡ 0 → bitOr (anyOf 7 (sumsOf shape found .digits)) (sumsOf shape found .parity) ≡ suc w
         → bits (sumsOf shape found .parity) ≡ n
         → flippedIn (before shape + 1) (sumsOf shape found .digits) (λ i. bit i (sumsOf shape found .parity)) found ≡ after
-        → _≡_ {A = List ℕ} (verdictWords (verdictOf shape found) ++ mendedBlock shape found) (verdictWords (Mended n) ++ after)
+        → _≡_ {A = List ℕ} (saidWords (toSay shape found) ++ mendedBlock shape found) (verdictWords (Mended n) ++ after)
     was-mended n w after z s c e =
         said found _ _ (mended-by-words shape found fit long z (λ q. omega (arith, s))) ∙ ap₂ (λ (k : ℕ) (l : List ℕ). verdictWords (Mended k) ++ l) c e
 

@@ -1,6 +1,6 @@
 -- Demand 3, a and b: the turns and the asks of the store are those of its rota. Assumes nothing.
 use Prim.Native.Nat.{ℕ, _+_, _≤_, _<_}
-use mathlib.Core.Path.{_≡_, refl, sym, ap, ap₂, _∙_}
+use mathlib.Core.Path.{_≡_, refl, sym, ap, ap₂, subst, _∙_}
 use native.Mathlib.Omega.{arith}
 use mathlib.Core.List.{List, [], _∷_, _++_, append-assoc, append-nil}
 use native.Mathlib.Nat.{one-le-mul}
@@ -24,11 +24,13 @@ use Rattle.rota.proofs.Numbers.{given}
 use Rattle.rota.proofs.Runs.{planAt, due-runs}
 use Rattle.rota.proofs.Patrol.{round-complete, ask-served}
 use Rattle.patrol.specs.declared.Record.{Record}
+use Rattle.patrol.specs.declared.Asked.{Asked}
+use Rattle.patrol.specs.declared.Turned.{Turned}
 use Rattle.patrol.specs.Ask.{asked}
 use Rattle.patrol.specs.Format.{formatted}
 use Rattle.patrol.specs.Numbers.{reportNumber}
 use Rattle.patrol.specs.Turn.{seen, visited as visitedIn, reported, turnedNow, turned}
-use Rattle.patrol.proofs.Numbers.{ask-numbered}
+use Rattle.patrol.proofs.Promises.{asks-answer, turns-answer}
 use Rattle.demands.specs.Steps.{Step, ask, turn, fresh, after, stepAfter, report, turns}
 use Rattle.demands.specs.Demand3.{PatrolVisits, AskVisits, store, NotFormatted, TurnsAccepted, EveryBlockVisited, AskServed}
 use Rattle.demands.proofs.Lasting.{fresh-size, front-none}
@@ -158,19 +160,29 @@ module _ (image : List ℕ) (layout : Layout) (fits : imageRefusal (length image
       let two = ask-served (blocks layout) some-blocks (partsOf image layout before) block place got (allParts between later) turn-k in
       rw (report-after (before ++ ask block ∷ between) all, parts-append before (ask block ∷ between) (fresh image layout), two) (ask-names layout _ _ block)
 
+-- ---- of all that the promises allow
+
 pub turns-accepted : (image : List ℕ) (layout : Layout) → TurnsAccepted image layout
-turns-accepted image layout formatted before none = accepted image layout (omega (arith, formatted)) before none
+turns-accepted image layout formatted before none answer left p =
+    ap (λ (a : Turned). reportNumber (a .report)) (turns-answer _ _ p .0) ∙ accepted image layout (omega (arith, formatted)) before none
 
 pub every-block-visited : (image : List ℕ) (layout : Layout) → EveryBlockVisited image layout
 unfolding turns
 every-block-visited image layout formatted before during none enough block inside =
-    visited image layout (omega (arith, formatted)) before during none (omega (arith, enough)) block inside
+    let found = visited image layout (omega (arith, formatted)) before during none (omega (arith, enough)) block inside in (
+      found .0,
+      found .1,
+      found .2,
+      λ answer left p. subst (λ (a : Turned). PatrolVisits block (a .report)) (sym (turns-answer _ _ p .0)) (found .3),
+    )
 
 pub asks-served : (image : List ℕ) (layout : Layout) → AskServed image layout
-asks-served image layout before between block all accepts turn-k =
+asks-served image layout before between block all gives asks accepts turn-k answer left p =
     let none = front-none (fresh image layout) before (ask block ∷ between) all in
     let r = store image layout before .patrol in
-    let place = placeGiven (asked r block .place) in
-    let got : asked r block .place ≡ Given place = given (asked r block .place) (ask-numbered r block) accepts in
-    let formatted = given-formatted image layout before none block place got in
-    served image layout formatted before between block place all none got (omega (arith, turn-k))
+    let place = gives .place in
+    let is : place ≡ asked r block .place = ap (λ (a : Asked). a .place) (asks-answer r block asks) in
+    let got : asked r block .place ≡ Given (placeGiven place) = sym is ∙ given place (asks .numbered) accepts in
+    let fits = given-formatted image layout before none block (placeGiven place) got in
+    let visits = served image layout fits before between block (placeGiven place) all none got (omega (arith, turn-k)) in
+    subst (λ (a : Turned). AskVisits block (a .report)) (sym (turns-answer _ _ p .0)) visits

@@ -25,7 +25,8 @@ use Rattle.rota.specs.Record.{unbroken, askNumber, rotaAsked, turnNumber, rotaT
 use Rattle.patrol.specs.Ask.{asked}
 use Rattle.patrol.specs.Format.{formatted}
 use Rattle.patrol.specs.Numbers.{reportNumber}
-use Rattle.patrol.specs.Turn.{turned, turnAfter}
+use Rattle.patrol.specs.Turn.{turned, turnAfter, Turns}
+use Rattle.patrol.proofs.Promises.{asks, turns as turnsSo}
 use Rattle.demands.specs.Steps.{Step, format, write, read, visit, ask, turn, flip}
 use Rattle.demands.specs.Steps.{State, fresh, flipped, stepAfter, after, answers, report, turns, lastWritten}
 use Rattle.demands.specs.Demand3.{PatrolVisits, AskVisits, NotFormatted, FormatAccepted}
@@ -52,7 +53,7 @@ between = ask 1 ∷ turn ∷ write ours 1 oneFirst ∷ visit ours 0 ∷ refused 
 abbrev pub begun : List Step
 begun = start ++ between ++ flip 24 3 ∷ []
 
--- block 1 is read, and then block 0, to which nothing was written
+-- after block 1 is read: block 0, to which nothing was written, is read too
 abbrev pub ended : List Step
 ended = read ours 0 sevens ∷ visit ours 1 ∷ turn ∷ []
 
@@ -145,6 +146,10 @@ read-right before rest block e a =
     (reads (small before .image) ours block sevens refl refl)
     a
 
+-- what a turn answers keeps its promise
+turned-so : (state : State) → Turns (state .patrol) (state .image) (turned (state .patrol) (state .image)) (turnAfter (state .patrol) (state .image))
+turned-so state = turnsSo (state .patrol) (state .image) refl refl
+
 pub shown : Shown
 shown =
     let one = read-right begun ended 1 refl (computed .first-read) in
@@ -152,15 +157,25 @@ shown =
     record {
       accepted = λ before rest e.
           demand-3 .turns-accepted lent ours (computed .formatted-first) before
-          (front-none origin before (turn ∷ rest) (subst (NotFormatted lent ours) e none));
+          (front-none origin before (turn ∷ rest) (subst (NotFormatted lent ours) e none))
+          _
+          _
+          (turned-so (small before));
       visits = λ block l.
-          demand-3 .every-block-visited lent ours (computed .formatted-first) [] begun none-begun (rw (computed .two) (omega arith)) block l;
+          let found =
+          demand-3 .every-block-visited lent ours (computed .formatted-first) [] begun none-begun (rw (computed .two) (omega arith)) block l in
+          (found .0, found .1, found .2, found .3 _ _ (turned-so (small (found .0))));
       served = demand-3 .ask-served lent ours start [] 1
           (front-none origin (start ++ ask 1 ∷ [])
           (turn ∷ write ours 1 oneFirst ∷ visit ours 0 ∷ refused ++ turn ∷ flip 24 3 ∷ read ours 1 sevens ∷ ended)
           none)
+          _
+          (asks (small start .patrol) 1 refl)
           (computed .given)
-          (omega (arith, computed .alone, computed .place-one));
+          (omega (arith, computed .alone, computed .place-one))
+          _
+          _
+          (turned-so (small (start ++ ask 1 ∷ [])));
       written = one .1 ∙ computed .last-one;
       written-kept = one .0;
       zero = other .1 ∙ computed .last-zero;

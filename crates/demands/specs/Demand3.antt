@@ -4,7 +4,7 @@
 --   b. An ask given place k is served by the k-th turn after it, whatever comes between.
 --   c. If memory changes otherwise only by single flips between calls, with at least N turns between two flips in the same lane of the
 --      same block, every accepted read gives the data last written there, or zeros.
--- Where the format was refused no ask is given a place and no read that names its layout is accepted, so b and c need not ask for it.
+-- Each is of all that the promises of ask, turn and read allow. Where the format was refused no ask is given a place and no read that names its layout is accepted, so b and c need not ask for it.
 -- Assumes nothing.
 use Prim.Native.Nat.{ℕ, _+_, _^_, _≤_, _<_}
 use mathlib.Core.Path.{_≡_}
@@ -18,9 +18,12 @@ use Rattle.store.specs.Answer.{answerNumber, answerVerdict}
 use Rattle.store.specs.Read.{Reads}
 use Rattle.rota.specs.Numbers.{placeNumber, placeGiven}
 use Rattle.patrol.specs.declared.Report.{Report}
-use Rattle.patrol.specs.Ask.{asked}
+use Rattle.patrol.specs.declared.Asked.{Asked}
+use Rattle.patrol.specs.declared.Turned.{Turned}
+use Rattle.patrol.specs.Ask.{Asks}
+use Rattle.patrol.specs.Turn.{Turns}
 use Rattle.patrol.specs.Numbers.{Seen, reportNumber, reportFirst, reportSecond}
-use Rattle.demands.specs.Steps.{Step, format, write, read, visit, ask, turn, flip, State, fresh, after, report, answers, turns, lastWritten}
+use Rattle.demands.specs.Steps.{Step, format, write, read, visit, ask, turn, flip, State, fresh, after, answers, turns, lastWritten}
 
 -- a visit in a report names the block, and has a verdict
 abbrev pub Names : ℕ → Seen → Type 0
@@ -72,14 +75,19 @@ module _ (image : List ℕ) (layout : Layout) where
 
   -- every turn is accepted
   abbrev pub TurnsAccepted : Type 0
-  TurnsAccepted = FormatAccepted → (before : List Step) → NotFormatted before → reportNumber (report (store before)) ≡ 0
+  TurnsAccepted =
+      FormatAccepted → (before : List Step) → NotFormatted before
+      → (answer : Turned) (left : List ℕ) → Turns (store before .patrol) (store before .image) answer left
+      → reportNumber (answer .report) ≡ 0
 
   -- in any N turns running every block is visited, whatever comes between
   abbrev pub EveryBlockVisited : Type 0
   EveryBlockVisited =
       FormatAccepted → (before during : List Step) → NotFormatted (before ++ during)
       → blocks layout ≤ turns during → (block : ℕ) → block < blocks layout
-      → (first rest : List Step) × (during ≡ first ++ turn ∷ rest) × PatrolVisits block (report (store (before ++ first)))
+      → (first rest : List Step) × (during ≡ first ++ turn ∷ rest)
+      × ((answer : Turned) (left : List ℕ) → Turns (store (before ++ first) .patrol) (store (before ++ first) .image) answer left
+      → PatrolVisits block (answer .report))
 
   -- ---- b
 
@@ -87,9 +95,12 @@ module _ (image : List ℕ) (layout : Layout) where
   abbrev pub AskServed : Type 0
   AskServed =
       (before between : List Step) (block : ℕ) → NotFormatted (before ++ ask block ∷ between)
-      → placeNumber (asked (store before .patrol) block .place) ≡ 0
-      → turns between + 1 ≡ placeGiven (asked (store before .patrol) block .place)
-      → AskVisits block (report (store (before ++ ask block ∷ between)))
+      → (given : Asked) → Asks (store before .patrol) block given
+      → placeNumber (given .place) ≡ 0
+      → turns between + 1 ≡ placeGiven (given .place)
+      → (answer : Turned) (left : List ℕ)
+      → Turns (store (before ++ ask block ∷ between) .patrol) (store (before ++ ask block ∷ between) .image) answer left
+      → AskVisits block (answer .report)
 
   -- ---- c
 

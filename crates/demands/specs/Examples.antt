@@ -1,14 +1,12 @@
 -- The worked examples 1 to 12, as one list: what the definitions give, and what they must give.
--- Shape 1 unless said; rows not named are zero. Assumes nothing.
+-- Shape 1 unless said; rows not named are zero. Verdict 2 is mended, 3 lost. Assumes nothing.
 use Prim.Native.Nat.{ℕ, zero, suc, _-_}
 use mathlib.Core.List.{List, [], _∷_, _++_}
 use lib.ListN.{set, replicate}
 use Rattle.shape.specs.declared.Shape.{Shape}
 use Rattle.shape.specs.declared.Shape.the-variants.{One, Two}
-use Rattle.block.specs.declared.Verdict.{Verdict}
-use Rattle.block.specs.declared.Verdict.the-variants.{Mended, Lost}
 use Rattle.block.specs.Block.{blank, validBlock, mendedBlock}
-use Rattle.block.specs.Verdict.{verdictOf, verdictWords}
+use Rattle.block.specs.Verdict.{toSay, saidWords}
 use Rattle.layout.specs.Layout.{layoutOf, index}
 
 pub record Example : Type 0 where
@@ -29,13 +27,10 @@ dataWord words k word = set (replicate words 0) (k - 1) word
 abbrev pub writes : Shape → List ℕ → List ℕ → Example
 writes shape list block = record { gives = validBlock shape list; must = block }
 
--- visiting: the words of the verdict, and the block after
-abbrev pub visits : Shape → List ℕ → Verdict → List ℕ → Example
-visits shape found verdict after =
-    record {
-      gives = verdictWords (verdictOf shape found) ++ mendedBlock shape found;
-      must = verdictWords verdict ++ after;
-    }
+-- visiting: the verdict's number and its count, and the block after
+abbrev pub visits : Shape → List ℕ → ℕ → ℕ → List ℕ → Example
+visits shape found verdict count after =
+    record { gives = saidWords (toSay shape found) ++ mendedBlock shape found; must = verdict ∷ count ∷ after }
 
 abbrev pub ones : ℕ
 ones = 0xFFFFFFFF
@@ -57,19 +52,19 @@ examples =
     -- 4: shape 2, data word 64 = 1: rows 1, 2, 4, 64, 71 and 72 become 1
     ∷ writes Two (dataWord 64 64 1) (blank with 1 in-rows (1 ∷ 2 ∷ 4 ∷ 64 ∷ 71 ∷ 72 ∷ []))
     -- 5: row 5 = 1: mended 1, all zero after
-    ∷ visits One (blank with 1 in-rows (5 ∷ [])) (Mended 1) blank
+    ∷ visits One (blank with 1 in-rows (5 ∷ [])) 2 1 blank
     -- 6: row 16 = FFFFFFFF hex: mended 32, all zero after
-    ∷ visits One (blank with ones in-rows (16 ∷ [])) (Mended 32) blank
+    ∷ visits One (blank with ones in-rows (16 ∷ [])) 2 32 blank
     -- 7: rows 3 and 5 = 1: lost 1, unchanged
-    ∷ visits One (blank with 1 in-rows (3 ∷ 5 ∷ [])) (Lost 1) (blank with 1 in-rows (3 ∷ 5 ∷ []))
+    ∷ visits One (blank with 1 in-rows (3 ∷ 5 ∷ [])) 3 1 (blank with 1 in-rows (3 ∷ 5 ∷ []))
     -- 8: row 3 = 1, row 5 = 2: mended 2
-    ∷ visits One (blank with 1 in-rows (3 ∷ []) with 2 in-rows (5 ∷ [])) (Mended 2) blank
+    ∷ visits One (blank with 1 in-rows (3 ∷ []) with 2 in-rows (5 ∷ [])) 2 2 blank
     -- 9: rows 3 and 5 = 1, row 9 = 2: lost 1; row 9 stays 2
-    ∷ visits One (blank with 1 in-rows (3 ∷ 5 ∷ []) with 2 in-rows (9 ∷ [])) (Lost 1) (blank with 1 in-rows (3 ∷ 5 ∷ []) with 2 in-rows (9 ∷ []))
+    ∷ visits One (blank with 1 in-rows (3 ∷ 5 ∷ []) with 2 in-rows (9 ∷ [])) 3 1 (blank with 1 in-rows (3 ∷ 5 ∷ []) with 2 in-rows (9 ∷ []))
     -- 10: rows 1, 2 and 4 = 1: mended 1; row 7 becomes 1 too
-    ∷ visits One (blank with 1 in-rows (1 ∷ 2 ∷ 4 ∷ [])) (Mended 1) (blank with 1 in-rows (1 ∷ 2 ∷ 4 ∷ 7 ∷ []))
+    ∷ visits One (blank with 1 in-rows (1 ∷ 2 ∷ 4 ∷ [])) 2 1 (blank with 1 in-rows (1 ∷ 2 ∷ 4 ∷ 7 ∷ []))
     -- 11: shape 2, rows 1, 9 and 64 = 1: sum 72, odd: lost 1
-    ∷ visits Two (blank with 1 in-rows (1 ∷ 9 ∷ 64 ∷ [])) (Lost 1) (blank with 1 in-rows (1 ∷ 9 ∷ 64 ∷ []))
+    ∷ visits Two (blank with 1 in-rows (1 ∷ 9 ∷ 64 ∷ [])) 3 1 (blank with 1 in-rows (1 ∷ 9 ∷ 64 ∷ []))
     -- 12: shape 2, s = 6, block 7: row 1 at index 433, row 72 at 859
     ∷ record { gives = index (layoutOf 2 6 2) 7 1 ∷ index (layoutOf 2 6 2) 7 72 ∷ []; must = 433 ∷ 859 ∷ [] }
     ∷ []

@@ -1,5 +1,5 @@
 -- A list of steps: each is one of the six calls with its arguments, whatever they are, or one flip named by index and bit. Image and record
--- go from step to step as values, and each call leaves what its promise says: the definitions are those that the promises cite.
+-- go from step to step as values, and each call leaves what its promise says: `demands/proofs/Promised` proves it.
 -- A refused format leaves the record: the one of zeros that it gives is another, since it was handed none. Assumes nothing.
 use Prim.Native.Nat.{ℕ, suc, _^_}
 use mathlib.Core.Bool.{cond}
@@ -92,7 +92,8 @@ unfoldable pub turns : List Step → ℕ
 turns [] = 0
 turns (step ∷ rest) = tick step (turns rest)
 
--- the data that a block is meant to hold after a step: an accepted write to the block changes it, and nothing else does
+-- the data that a block is meant to hold after a step: an accepted write to the block changes it, and nothing else does; a format that is
+-- accepted does not come
 abbrev pub meant : ℕ → List ℕ → Step → State → List ℕ
 meant block old (format layout) state = old
 meant block old (write layout to list) state =

@@ -178,7 +178,7 @@ report-short image layout ok few =
 -- ---- the report of a file
 
 -- a file has room for at most 511 blocks, and 8,176 words
-file-most : (bytes : List ℕ) → Accepted bytes → (blocks (layoutIn bytes) ≤ 511) × (wordCount (length bytes) ≤ 8176)
+pub file-most : (bytes : List ℕ) → Accepted bytes → (blocks (layoutIn bytes) ≤ 511) × (wordCount (length bytes) ≤ 8176)
 file-most bytes ok =
     let size : Shape → ℕ = λ (shape : Shape). 4 * (rows shape * blocks (layoutIn bytes)) in
     let most = ok .frame .most in

@@ -49,7 +49,7 @@ returns c =
     let told = c .before .before .before .before .before in
     let args = one told .args in
     of-shape (told .enum-told .given .1) (args .block .now) (args .buffer .now) _
-    (c .before .before .copy-rows .ensures ∙ table-copied data-one (args .block .now) (args .buffer .now))
+    (table-copied data-one _ _ _ (c .before .before .copy-rows .ensures) refl)
 
 same-length-2 : tie.Need-same-length-2
 same-length-2 c = search needs
@@ -59,7 +59,7 @@ returns-2 c =
     let told = c .before .before .before .before .before in
     let args = two told .args in
     of-shape (told .enum-told2 .given .1) (args .block .now) (args .buffer .now) _
-    (c .before .before .copy-rows2 .ensures ∙ table-copied data-two (args .block .now) (args .buffer .now))
+    (table-copied data-two _ _ _ (c .before .before .copy-rows2 .ensures) refl)
 
 pub data-into-spec : {M : Type 1} → statement M
 data-into-spec =

@@ -44,12 +44,12 @@ spread-requires-2 c κs = (refl, refl)
 returns : tie.Need-returns
 returns c =
     let list = one (c .before .before) .args .list .now in
-    of-shape (c .before .before .enum-told .given .1) list _ (c .spread .ensures ∙ table-spread data-one list)
+    of-shape (c .before .before .enum-told .given .1) list _ (table-spread data-one _ list (c .spread .ensures) refl)
 
 returns-2 : tie.Need-returns-2
 returns-2 c =
     let list = two (c .before .before) .args .list .now in
-    of-shape (c .before .before .enum-told2 .given .1) list _ (c .spread2 .ensures ∙ table-spread data-two list)
+    of-shape (c .before .before .enum-told2 .given .1) list _ (table-spread data-two _ list (c .spread2 .ensures) refl)
 
 pub spread-data-spec : {M : Type 1} → statement M
 spread-data-spec =
