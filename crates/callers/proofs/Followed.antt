@@ -1,10 +1,11 @@
 -- What a caller keeps after a list of steps is the image and the record's words of the state after them. Assumes nothing.
-use Prim.Native.Nat.{ℕ, zero, suc, _+_}
+use Prim.Native.Nat.{ℕ}
 use mathlib.Core.Path.{_≡_, refl, sym, ap, _∙_}
 use mathlib.Core.List.{List, [], _∷_}
 use native.Mathlib.Omega.{arith}
 use lib.ListN.{length}
 use Rattle.ground.specs.Choice.{ifZero}
+use Rattle.ground.proofs.Choices.{choice-of}
 use Rattle.layout.specs.declared.Layout.{Layout}
 use Rattle.rota.specs.Line.{places}
 use Rattle.store.specs.Fresh.{freshAfter}
@@ -54,17 +55,13 @@ format-words : (image : List ℕ) (layout : Layout) {number : ℕ} {after other 
 unfolding formatted
 format-words image layout c = (c .answers, c .back)
 
-either-words : (number : ℕ) (new old : Record) → ifZero number (recordWords new) (recordWords old) ≡ recordWords (ifZero number new old)
-either-words zero new old = refl
-either-words (suc number) new old = refl
-
 step-held : (step : Step) (number : ℕ) {old new : Kept} {state : State} → Holds old state → Called step number old new → Holds new (stepAfter step state)
 step-held (format layout) number {old} {new} {state} h c =
     let said = format-words (old .image) layout (c .1) in
     let made = formatted (state .image) layout in
     record {
       image = c .1 .leaves ∙ ap (λ (l : List ℕ). freshAfter l layout) (h .image);
-      words = c .2 ∙ rw (said .0, said .1, h .image, h .words) (either-words (made .number) (made .back) (state .patrol));
+      words = c .2 ∙ rw (said .0, said .1, h .image, h .words) (choice-of recordWords (made .number) (made .back) (state .patrol));
     }
 step-held (write layout block list) number h c =
     record { image = c .0 .leaves ∙ ap (λ (l : List ℕ). writeAfter l layout block list) (h .image); words = c .1 ∙ h .words }

@@ -4,7 +4,8 @@
 --   b. An ask given place k is served by the k-th turn after it, whatever comes between.
 --   c. If memory changes otherwise only by single flips between calls, with at least N turns between two flips in the same lane of the
 --      same block, every accepted read gives the data last written there, or zeros.
--- Each is of all that the promises of ask, turn and read allow. Where the format was refused no ask is given a place and no read that names its layout is accepted, so b and c need not ask for it.
+-- Each is of all that the promises of ask, turn and read allow. Where the format was refused no ask is given a place and no read that names
+-- its layout is accepted, so b and c need not ask for it.
 -- Assumes nothing.
 use Prim.Native.Nat.{ℕ, _+_, _^_, _≤_, _<_}
 use mathlib.Core.Path.{_≡_}

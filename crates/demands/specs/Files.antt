@@ -2,10 +2,9 @@
 -- `refused` and the number, and any other file the report of its image, whole. Assumes nothing.
 use Prim.Native.Nat.{ℕ}
 use mathlib.Core.Path.{_≡_}
-use mathlib.Core.List.{List, [], _∷_}
-use mathlib.Core.Logic.{_⊎_, _↔_}
+use mathlib.Core.List.{List}
 use lib.ListN.{take, drop}
-use Rattle.ground.specs.Rules.{Rule, NoneOf}
+use Rattle.ground.specs.Rules.{NoneOf, FirstGiven, InOrder}
 use Rattle.layout.specs.Layout.{layoutOf}
 use Rattle.file.specs.declared.Header.{Header}
 use Rattle.file.specs.Bytes.{layoutIn, wordsIn}
@@ -14,16 +13,6 @@ use Rattle.file.specs.Header.{headerNumber, headerLayout, HeaderRead}
 use Rattle.text.specs.Page.{endToEnd}
 use Rattle.report.specs.Lines.{refusalLine}
 use Rattle.report.specs.Report.{imageReport, reportOf, Inspects}
-
--- a rule of this number applies, and none before it; the number may have two rules, as 10 has
-abbrev pub FirstGiven : ℕ → List Rule → Type 0
-FirstGiven number [] = ⊥
-FirstGiven number (rule ∷ rest) = (rule .reason × (number ≡ rule .number)) ⊎ ((rule .reason → ⊥) × FirstGiven number rest)
-
--- each number is answered exactly when it is given, and 0 exactly when no rule applies
-pub record InOrder (rules : List Rule) (answer : ℕ) : Type 1 where
-  pub exactly : (number : ℕ) → (number ≡ 0 → ⊥) → (answer ≡ number) ↔ FirstGiven number rules
-  pub accepted : (answer ≡ 0) ↔ NoneOf rules
 
 -- the header: its number goes by the rules; it names the layout of the bytes where none applies, and else one of zeros
 pub record FileRefusing (bytes : List ℕ) (header : Header) : Type 1 where

@@ -9,3 +9,4 @@ pub mod Tests
 pub mod Told
 pub mod Ladder
 pub mod Rules
+pub mod InOrder

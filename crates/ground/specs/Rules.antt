@@ -27,3 +27,15 @@ GivenFor number earlier rule = (number ≡ rule .number) ↔ (NoneOf earlier × 
 pub record Ruled (rules : List Rule) (number : ℕ) : Type 1 where
   pub exactly : (earlier later : List Rule) (rule : Rule) → earlier ++ rule ∷ later ≡ rules → GivenFor number earlier rule
   pub accepted : (number ≡ 0) ↔ NoneOf rules
+
+-- ---- a table in which a number may stand twice
+
+-- a rule of this number applies, and none before it; the number may have two rules
+abbrev pub FirstGiven : ℕ → List Rule → Type 0
+FirstGiven number [] = ⊥
+FirstGiven number (rule ∷ rest) = (rule .reason × (number ≡ rule .number)) ⊎ ((rule .reason → ⊥) × FirstGiven number rest)
+
+-- each number is answered exactly when it is given, and 0 exactly when no rule applies
+pub record InOrder (rules : List Rule) (answer : ℕ) : Type 1 where
+  pub exactly : (number : ℕ) → (number ≡ 0 → ⊥) → (answer ≡ number) ↔ FirstGiven number rules
+  pub accepted : (answer ≡ 0) ↔ NoneOf rules
