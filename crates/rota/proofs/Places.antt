@@ -5,8 +5,8 @@ use mathlib.Core.Path.{_≡_, refl, sym, ap, ap₂, _∙_}
 use mathlib.Core.List.{List, [], _∷_, _++_}
 use native.Mathlib.Omega.{arith}
 use native.Mathlib.Numerals.{add-one}
-use lib.ListN.{length, getD, take, drop, set, replicate, length-drop, length-replicate}
-use lib.Seq.{split-at, take-take, getD-take, getD-drop, take-suc, drop-cons, length-take-le, paste, paste-suc, take-all}
+use lib.ListN.{length, getD, take, drop, set, replicate, length-drop, drop-of-length-le}
+use lib.Seq.{split-at, take-take, getD-take, getD-drop, take-suc, drop-cons, length-take-le, set-at, paste, paste-suc, drop-paste, take-all}
 use lib.Dec.{eqb}
 use borrow.Author.Tests.{ne-eqb, eqb-true, lt-ltb}
 use Rattle.ground.proofs.Bools.{both}
@@ -94,29 +94,39 @@ replicate-zeros (suc k) = replicate-zeros k
 
 -- ---- all places moved up
 
-one-left : (k : ℕ) → drop k (replicate {A = ℕ} (suc k) 0) ≡ 0 ∷ []
-one-left zero = refl
-one-left (suc k) = one-left k
-
--- the first i blocks moved up, and 0 in the other places
-abbrev pub movedFirst : ℕ → List ℕ → ℕ → List ℕ
-movedFirst capacity l i = paste (replicate capacity 0) 0 (drop 1 l) i
+-- the first i blocks moved up, and the other places as they were
+abbrev pub movedFirst : List ℕ → ℕ → List ℕ
+movedFirst l i = paste l 0 (drop 1 l) i
 
 module _ (capacity : ℕ) (l : List ℕ) (long : length l ≡ capacity) where
-  pub move-next : (i : ℕ) → i < capacity - 1 → set (movedFirst capacity l i) i (getD l (i + 1) 0) ≡ movedFirst capacity l (i + 1)
+  -- the place that is read next is still as it was
+  ahead : (i : ℕ) → i < capacity - 1 → getD (movedFirst l i) (i + 1) 0 ≡ getD (drop 1 l) i 0
+  ahead i h =
+      let d = length-drop 1 l in
+      let z : 0 + i + 1 ≡ i + 1 = omega arith in
+      let o : 0 + i + 1 ≡ 1 + i = omega arith in
+      ap (λ (k : ℕ). getD (movedFirst l i) k 0) (sym z)
+      ∙ sym (getD-drop (0 + i) (movedFirst l i) 1 0)
+      ∙ ap (λ (x : List ℕ). getD x 1 0) (drop-paste l 0 (drop 1 l) i (omega arith) (omega arith))
+      ∙ getD-drop (0 + i) l 1 0
+      ∙ ap (λ (k : ℕ). getD l k 0) o
+      ∙ sym (getD-drop 1 l i 0)
+
+  pub move-next : (i : ℕ) → i < capacity - 1 → set (movedFirst l i) i (getD (movedFirst l i) (i + 1) 0) ≡ movedFirst l (i + 1)
   move-next i h =
       let d = length-drop 1 l in
-      let r = length-replicate {A = ℕ} capacity 0 in
       let z : 0 + i ≡ i = omega arith in
-      let o : 1 + i ≡ i + 1 = omega arith in
-      ap₂ (λ (k v : ℕ). set (movedFirst capacity l i) k v) (sym z) (sym (getD-drop 1 l i 0 ∙ ap (λ (k : ℕ). getD l k 0) o))
-      ∙ paste-suc (replicate capacity 0) 0 (drop 1 l) i 0 (omega arith) (omega arith)
-      ∙ ap (movedFirst capacity l) (sym (add-one i))
+      ap₂ (λ (k v : ℕ). set (movedFirst l i) k v) (sym z) (ahead i h)
+      ∙ paste-suc l 0 (drop 1 l) i 0 (omega arith) (omega arith)
+      ∙ ap (movedFirst l) (sym (add-one i))
 
-  pub move-end : (i : ℕ) → 0 < capacity → i ≡ capacity - 1 → movedFirst capacity l i ≡ drop 1 l ++ (0 ∷ [])
+  -- the last place is cleared
+  pub move-end : (i : ℕ) → 0 < capacity → i ≡ capacity - 1 → set (movedFirst l i) i 0 ≡ drop 1 l ++ (0 ∷ [])
   move-end i some h =
       let d = length-drop 1 l in
-      let e : capacity ≡ suc i = omega arith in
       let z : 0 + i ≡ i = omega arith in
-      ap₂ (λ (x y : List ℕ). x ++ y) (take-all i (drop 1 l) (omega arith))
-      (ap₂ (λ (k j : ℕ). drop k (replicate {A = ℕ} j 0)) z e ∙ one-left i)
+      let p = take-all i (drop 1 l) (omega arith) in
+      ap₂ (λ (x : List ℕ) (k : ℕ). set (x ++ drop k l) i 0) p z
+      ∙ ap (λ (x : List ℕ). set (drop 1 l ++ x) i 0) (drop-cons l i 0 (omega arith))
+      ∙ set-at (drop 1 l) (getD l i 0) (drop (suc i) l) 0 i (omega arith)
+      ∙ ap (λ (x : List ℕ). drop 1 l ++ 0 ∷ x) (drop-of-length-le l {i = suc i} (omega arith))

@@ -3,7 +3,7 @@ ghost use mathlib.Core.Path.{_≡_};
 ghost use mathlib.Core.Bool.{_&&_};
 ghost use mathlib.Core.List.{[]};
 ghost use Prim.Native.Nat.{_≤_, _<_};
-ghost use lib.ListN.{take, drop};
+ghost use lib.ListN.{length, take, drop};
 ghost use Rattle.rota.specs.Line.{places, place, below, noneTwice, zeros, full};
 ghost use Rattle.rota.specs.Line.{asksOf, sound, lineOf, longer, shorter, Tidy};
 
@@ -40,7 +40,7 @@ impl Line {
         ensures { λ r. ⌜ r ≡ place block (asksOf self) ⌝ }
     {
         let asks = self.asks;
-        place_in(asks, self.waiting as usize, block) as u32
+        place_in(&asks, self.waiting as usize, block) as u32
     }
 
     // One block more waits, behind the others.
@@ -62,16 +62,17 @@ impl Line {
         requires { ⌜ Tidy places self × (0 < self .waiting) ⌝ }
         ensures { λ r. ⌜ r ≡ shorter places self ⌝ }
     {
-        let asks = self.asks;
-        let mut up = [0u32; PLACES];
+        // In place: the compiler keeps one array whole, and takes a copy to another apart word by word.
+        let mut asks = self.asks;
         let mut i = 0;
         while i < PLACES - 1 {
-            up[i] = asks[i + 1];
+            asks[i] = asks[i + 1];
             i += 1;
         }
+        asks[PLACES - 1] = 0;
         Line {
             waiting: self.waiting - 1,
-            asks: up,
+            asks,
         }
     }
 
@@ -84,8 +85,8 @@ impl Line {
             return false;
         }
         let asks = self.asks;
-        if in_order(asks, count, n) {
-            unused(asks, count)
+        if in_order(&asks, count, n) {
+            unused(&asks, count)
         } else {
             false
         }
@@ -93,9 +94,9 @@ impl Line {
 }
 
 // The place of a block among the first `count`, from 1; 0 where it is not there.
-fn place_in(asks: [u32; PLACES], count: usize, block: u32) -> usize
-    requires { ⌜ count ≤ places ⌝ }
-    ensures { λ r. ⌜ r ≡ place block (take count asks) ⌝ }
+fn place_in(asks: &[u32; PLACES], count: usize, block: u32) -> usize
+    requires { ⌜ (length (now asks) ≡ places) × (count ≤ places) ⌝ }
+    ensures { λ r. ⌜ r ≡ place block (take count (now (asks .entry))) ⌝ }
 {
     let mut i = 0;
     while i < count {
@@ -108,9 +109,9 @@ fn place_in(asks: [u32; PLACES], count: usize, block: u32) -> usize
 }
 
 // Whether the first `count` blocks are below `n` and no two are the same.
-fn in_order(asks: [u32; PLACES], count: usize, n: u32) -> bool
-    requires { ⌜ count ≤ places ⌝ }
-    ensures { λ r. ⌜ r ≡ (below n (take count asks) && noneTwice (take count asks)) ⌝ }
+fn in_order(asks: &[u32; PLACES], count: usize, n: u32) -> bool
+    requires { ⌜ (length (now asks) ≡ places) × (count ≤ places) ⌝ }
+    ensures { λ r. ⌜ r ≡ (below n (take count (now (asks .entry))) && noneTwice (take count (now (asks .entry)))) ⌝ }
 {
     let mut i = 0;
     while i < count {
@@ -128,9 +129,9 @@ fn in_order(asks: [u32; PLACES], count: usize, n: u32) -> bool
 }
 
 // Whether the places from `count` on hold 0.
-fn unused(asks: [u32; PLACES], count: usize) -> bool
-    requires { ⌜ count ≤ places ⌝ }
-    ensures { λ r. ⌜ r ≡ zeros (drop count asks) ⌝ }
+fn unused(asks: &[u32; PLACES], count: usize) -> bool
+    requires { ⌜ (length (now asks) ≡ places) × (count ≤ places) ⌝ }
+    ensures { λ r. ⌜ r ≡ zeros (drop count (now (asks .entry))) ⌝ }
 {
     let mut i = PLACES;
     while count < i {

@@ -11,20 +11,20 @@ use Rattle.rota.proofs.line.in_order.Statement.{statement}
 use Rattle.rota.proofs.line.in_order.Tie as tie
 
 abbrev Inv-loop : tie.InvT-loop
-Inv-loop count n asks i₀ i = (i ≤ count) × (below n (take i asks) ≡ true) × (noneTwice (take i asks) ≡ true)
+Inv-loop asks count n i₀ i = (i ≤ count) × (below n (take i asks) ≡ true) × (noneTwice (take i asks) ≡ true)
 
 abbrev μ-loop : tie.MeasureT-loop
-μ-loop count n asks i₀ i = count - i
+μ-loop asks count n i₀ i = count - i
 
 -- the start, from where the loop is entered, and that point from where an earlier place is known
 abbrev start : tie.In-loop Inv-loop μ-loop → tie.Start Inv-loop μ-loop
 start c = c .before .before
 
 abbrev entered : tie.After-place-in Inv-loop μ-loop → tie.In-loop Inv-loop μ-loop
-entered c = c .before .before
+entered c = c .before .before .before
 
-long : (c : tie.Start Inv-loop μ-loop) → length (c .args .t1) ≡ places
-long c = search needs
+long : (c : tie.Start Inv-loop μ-loop) → length (c .args .asks .now) ≡ places
+long c = c .pre .0
 
 loop-holds : tie.Need-loop-holds Inv-loop μ-loop
 unfolding below noneTwice
@@ -33,13 +33,14 @@ loop-holds c = (omega arith, refl, refl)
 mul-block : tie.Need-mul-block Inv-loop μ-loop
 mul-block c = search needs
 
-array-read-block : tie.Need-array-read-block Inv-loop μ-loop
-array-read-block c = search needs
+element-copy-out-block : tie.Need-element-copy-out-block Inv-loop μ-loop
+element-copy-out-block c = search needs
 
 returns : tie.Need-returns Inv-loop μ-loop
 returns c =
-    let l = long (start (c .before)) in
-    below-fails _ _ (c .before .before .loop .i) _ (c .before .loop-test .taken) (omega arith) (c .if1 .taken)
+    let passed = c .before .before in
+    let l = long (start passed) in
+    below-fails _ _ (passed .before .loop .i) _ (passed .loop-test .taken) (omega arith) (c .if1 .taken)
 
 place-in-requires : tie.Need-place-in-requires Inv-loop μ-loop
 place-in-requires c κs = search needs
@@ -80,7 +81,7 @@ in-order-spec =
     μ-loop
     loop-holds
     mul-block
-    array-read-block
+    element-copy-out-block
     returns
     place-in-requires
     returns-2

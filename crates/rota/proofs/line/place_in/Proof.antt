@@ -10,13 +10,13 @@ use Rattle.rota.proofs.line.place_in.Statement.{statement}
 use Rattle.rota.proofs.line.place_in.Tie as tie
 
 abbrev Inv-loop : tie.InvT-loop
-Inv-loop count block asks i₀ i = (i ≤ count) × (place block (take i asks) ≡ 0)
+Inv-loop asks count block i₀ i = (i ≤ count) × (place block (take i asks) ≡ 0)
 
 abbrev μ-loop : tie.MeasureT-loop
-μ-loop count block asks i₀ i = count - i
+μ-loop asks count block i₀ i = count - i
 
-long : (c : tie.Start Inv-loop μ-loop) → length (c .args .t1) ≡ places
-long c = search needs
+long : (c : tie.Start Inv-loop μ-loop) → length (c .args .asks .now) ≡ places
+long c = c .pre .0
 
 loop-holds : tie.Need-loop-holds Inv-loop μ-loop
 unfolding place
@@ -25,16 +25,17 @@ loop-holds c = (omega arith, refl)
 mul-if1 : tie.Need-mul-if1 Inv-loop μ-loop
 mul-if1 c = search needs
 
-array-read-if1 : tie.Need-array-read-if1 Inv-loop μ-loop
-array-read-if1 c = search needs
+element-copy-out-if1 : tie.Need-element-copy-out-if1 Inv-loop μ-loop
+element-copy-out-if1 c = search needs
 
 add-result : tie.Need-add-result Inv-loop μ-loop
 add-result c = search needs
 
 returns : tie.Need-returns Inv-loop μ-loop
 returns c =
-    let l = long (c .before .before .before) in
-    place-hit _ _ (c .before .before .loop .i) _ (c .before .loop-test .taken) (omega arith) (c .before .before .loop .inv .1) (c .if1 .taken)
+    let passed = c .before .before in
+    let l = long (passed .before .before) in
+    place-hit _ _ (passed .before .loop .i) _ (passed .loop-test .taken) (omega arith) (passed .before .loop .inv .1) (c .if1 .taken)
 
 add-i : tie.Need-add-i Inv-loop μ-loop
 add-i c = search needs
@@ -44,8 +45,9 @@ loop-less c = search needs
 
 loop-again : tie.Need-loop-again Inv-loop μ-loop
 loop-again c =
-    let l = long (c .before .before .before) in
-    (omega arith, place-next _ _ (c .before .before .loop .i) (omega arith) (c .before .before .loop .inv .1) (c .if1 .left))
+    let at = c .before .before .before in
+    let l = long (at .before) in
+    (omega arith, place-next _ _ (at .loop .i) (omega arith) (at .loop .inv .1) (c .if1 .left))
 
 returns-2 : tie.Need-returns-2 Inv-loop μ-loop
 returns-2 c =
@@ -60,7 +62,7 @@ place-in-spec =
     μ-loop
     loop-holds
     mul-if1
-    array-read-if1
+    element-copy-out-if1
     add-result
     returns
     add-i

@@ -11,19 +11,19 @@ use Rattle.rota.proofs.line.unused.Statement.{statement}
 use Rattle.rota.proofs.line.unused.Tie as tie
 
 abbrev Inv-loop : tie.InvT-loop
-Inv-loop count asks i₀ i = (count ≤ i) × (i ≤ places) × (zeros (drop i asks) ≡ true)
+Inv-loop asks count i₀ i = (count ≤ i) × (i ≤ places) × (zeros (drop i asks) ≡ true)
 
 abbrev μ-loop : tie.MeasureT-loop
-μ-loop count asks i₀ i = i - count
+μ-loop asks count i₀ i = i - count
 
-long : (c : tie.Start Inv-loop μ-loop) → length (c .args .t1) ≡ places
-long c = search needs
+long : (c : tie.Start Inv-loop μ-loop) → length (c .args .asks .now) ≡ places
+long c = c .pre .0
 
 loop-holds : tie.Need-loop-holds Inv-loop μ-loop
 loop-holds c =
     let l = long c in
-    let d = length-drop places (c .args .t1) in
-    (c .pre, omega arith, zeros-none _ (omega arith))
+    let d = length-drop places (c .args .asks .now) in
+    (c .pre .1, omega arith, zeros-none _ (omega arith))
 
 sub-i : tie.Need-sub-i Inv-loop μ-loop
 sub-i c = search needs
@@ -31,21 +31,24 @@ sub-i c = search needs
 mul-if1 : tie.Need-mul-if1 Inv-loop μ-loop
 mul-if1 c = search needs
 
-array-read-if1 : tie.Need-array-read-if1 Inv-loop μ-loop
-array-read-if1 c = search needs
+element-copy-out-if1 : tie.Need-element-copy-out-if1 Inv-loop μ-loop
+element-copy-out-if1 c = search needs
 
 returns : tie.Need-returns Inv-loop μ-loop
-returns c = zeros-fails _ (c .before .before .before .args .count) (c .before .before .loop .i - 1) (omega arith) (c .if1 .taken)
+returns c =
+    let at = c .before .before .before in
+    zeros-fails _ (at .before .args .count) (at .loop .i - 1) (omega arith) (c .if1 .taken)
 
 loop-less : tie.Need-loop-less Inv-loop μ-loop
 loop-less c = search needs
 
 loop-again : tie.Need-loop-again Inv-loop μ-loop
 loop-again c =
-    let l = long (c .before .before .before) in
-    let at = c .before .before .loop in
+    let start = c .before .before .before .before in
+    let l = long start in
+    let at = c .before .before .before .loop in
     let e : suc (at .i - 1) ≡ at .i = omega arith in
-    (omega arith, omega arith, zeros-next (c .before .before .before .args .t1) (at .i - 1) (omega arith) (rw e (at .inv .2)) (c .if1 .left))
+    (omega arith, omega arith, zeros-next (start .args .asks .now) (at .i - 1) (omega arith) (rw e (at .inv .2)) (c .if1 .left))
 
 returns-2 : tie.Need-returns-2 Inv-loop μ-loop
 returns-2 c =
@@ -61,7 +64,7 @@ unused-spec =
     loop-holds
     sub-i
     mul-if1
-    array-read-if1
+    element-copy-out-if1
     returns
     loop-less
     loop-again

@@ -15,7 +15,7 @@ place-in-requires c κs = search needs
 
 cast-result : tie.Need-cast-result
 cast-result c =
-    let args = c .before .before .before .args in
+    let args = c .before .before .before .before .args in
     omega (arith, c .place-in .ensures, place-le (args .block) (asksOf (args .self)), length-take (args .self .waiting) (args .self .asks))
 
 returns : tie.Need-returns

@@ -21,13 +21,14 @@ unused-requires c κs = search needs
 
 returns-2 : tie.Need-returns-2
 returns-2 c =
-    let tested = c .before .before in
-    sound-is places _ _ (tested .before .before .if1 .left) true _ (sym (c .before .if2 .taken) ∙ tested .in-order .ensures) (c .unused .ensures)
+    let ordered = c .before .before in
+    let tested = ordered .before in
+    sound-is places _ _ (tested .before .before .before .if1 .left) true _ (sym (ordered .if2 .taken) ∙ tested .in-order .ensures) (c .unused .ensures)
 
 returns-3 : tie.Need-returns-3
 returns-3 c =
     let tested = c .before in
-    sound-is places _ _ (tested .before .before .if1 .left) false _ (sym (c .if2 .left) ∙ tested .in-order .ensures) refl
+    sound-is places _ _ (tested .before .before .before .if1 .left) false _ (sym (c .if2 .left) ∙ tested .in-order .ensures) refl
 
 pub sound-spec : {M : Type 1} → statement M
 sound-spec = tie.close (tie.spec cast-count returns in-order-requires unused-requires returns-2 returns-3)
