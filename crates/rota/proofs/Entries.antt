@@ -1,6 +1,6 @@
 -- What an ask and a turn answer, case by case as the code goes. Assumes nothing.
 use Prim.Native.Nat.{ℕ, zero, suc, _≤_, _<_}
-use mathlib.Core.Bool.{Bool, true, false}
+use mathlib.Core.Bool.{Bool, true, false, not, cond}
 use mathlib.Core.Path.{_≡_, refl, sym, ap, _∙_}
 use mathlib.Core.List.{List, [], _∷_, _++_}
 use native.Mathlib.Omega.{arith}
@@ -8,18 +8,40 @@ use native.Mathlib.Numerals.{add-one}
 use lib.ListN.{length, getD, take, length-take, length-append}
 use lib.Dec.{ltb, eqb·suc-zero}
 use borrow.Author.Tests.{ltb-true, lt-ltb, le-ltb}
+use Rattle.ground.specs.Choice.{ifZero}
+use Rattle.ground.specs.Ladder.{_when_else_}
 use Rattle.ground.proofs.Bools.{both}
 use Rattle.rota.specs.Line.{places, place, full, asksOf, sound, longer, shorter, Tidy}
-use Rattle.rota.specs.Asking.{askRefusal}
+use Rattle.rota.specs.Asking.{askRefusal, given, lengthened, askPlace, joined}
 use Rattle.rota.specs.Turning.{onward, dueOf}
 use Rattle.rota.specs.Record.{unbroken, planOf, rotaOf, askNumber, rotaAsked, turnNumber, rotaTurned}
+use Rattle.rota.specs.Numbers.{placeGiven}
 use Rattle.rota.specs.declared.line.Line.{Line}
 use Rattle.rota.specs.declared.Rota.{Rota}
+use Rattle.rota.specs.declared.Place.{Place}
 use Rattle.rota.specs.declared.Place.the-variants.{Given, Refused as NoPlace}
+use Rattle.rota.specs.declared.RotaAsked.{RotaAsked}
 use Rattle.rota.specs.declared.Due.{Due}
 use Rattle.rota.specs.declared.Due.the-variants.{One, Two, Refused as NoneDue}
+use Rattle.rota.proofs.Waiting.{place-le}
 use Rattle.rota.proofs.Lines.{Fit, sound-fit, sound-tidy}
 use Rattle.rota.proofs.Plans.{Sound}
+
+-- ---- how many wait after an ask
+
+-- where w waited, and the ask got place k: a place behind the others is new
+abbrev after : ℕ → ℕ → ℕ
+after w k = cond (ltb w k) k w
+
+pub after-new : (w k : ℕ) → w < k → k ≡ after w k
+after-new w k h = rw (lt-ltb w k h)
+
+pub after-had : (w k : ℕ) → k ≤ w → w ≡ after w k
+after-had w k h = rw (le-ltb w k h)
+
+after-given : (b w : ℕ) (l : List ℕ) → length l ≡ w → (k : ℕ) → place b l ≡ k → after w (given k l) ≡ length (lengthened k b l)
+after-given b w l e zero f = sym (after-new w (suc (length l)) (omega arith)) ∙ sym (length-append l (b ∷ []) ∙ add-one (length l))
+after-given b w l e (suc k) f = sym (after-had w (suc k) (omega (arith, place-le b l))) ∙ sym e
 
 module _ (n : ℕ) (r : Rota) where
   -- ---- whether a record is broken
@@ -120,3 +142,29 @@ module _ (n : ℕ) (r : Rota) (long : length (r .line .asks) ≡ places) (ok : u
         → record { due = Two (r .next) (getD (r .line .asks) 0 0); rota = record { next = k; line = q } } ≡ rotaTurned n r
     turn-two h f =
         turn-is (Two (r .next) (getD (r .line .asks) 0 0)) (two-due (r .next) (r .line .waiting) (r .line .asks) h (omega arith)) f
+
+-- ---- the whole answer of an ask, from its place and its asks
+
+module _ (n : ℕ) (r : Rota) (long : length (r .line .asks) ≡ places) (b : ℕ) where
+  kept : (r .next ≡ rotaAsked n r b .rota .next)
+      × (after (r .line .waiting) (placeGiven (rotaAsked n r b .place)) ≡ rotaAsked n r b .rota .line .waiting)
+  unfolding rotaAsked askNumber
+  kept = go (unbroken n r) refl (askRefusal places n (planOf r) b)
+    where
+      answer : ℕ → RotaAsked
+      answer v = ifZero v (record { place = Given (askPlace (planOf r) b); rota = rotaOf (joined (planOf r) b) }) (record { place = NoPlace v; rota = r })
+
+      go : (t : Bool) → unbroken n r ≡ t → (v : ℕ) → let a = answer (5 when not t else v) in
+          (r .next ≡ a .rota .next) × (after (r .line .waiting) (placeGiven (a .place)) ≡ a .rota .line .waiting)
+      go true ok zero =
+          let w = ap (λ (line : Line). line .waiting) (line-tidy n r long ok) in
+          (refl, after-given b (r .line .waiting) (asksOf (r .line)) w (place b (asksOf (r .line))) refl)
+      go true ok (suc v) = (refl, sym (after-had (r .line .waiting) 0 (omega arith)))
+      go false ok v = (refl, sym (after-had (r .line .waiting) 0 (omega arith)))
+
+  pub ask-is : {p : Place} {w : ℕ} {l : List ℕ} → p ≡ rotaAsked n r b .place → w ≡ after (r .line .waiting) (placeGiven p)
+      → l ≡ rotaAsked n r b .rota .line .asks
+      → record { place = p; rota = record { next = r .next; line = record { waiting = w; asks = l } } } ≡ rotaAsked n r b
+  ask-is e f g =
+      let w = f ∙ ap (λ (p : Place). after (r .line .waiting) (placeGiven p)) e ∙ kept .1 in
+      λ i. record { place = e i; rota = record { next = kept .0 i; line = record { waiting = w i; asks = g i } } }

@@ -2,12 +2,19 @@
 mod line;
 
 ghost use mathlib.Core.Path.{_≡_};
+ghost use mathlib.Core.Bool.{cond};
 ghost use Prim.Native.Nat.{_<_};
+ghost use lib.ListN.{length};
+ghost use lib.Dec.{ltb};
+ghost use Rattle.rota.specs.Line.{places};
 ghost use Rattle.rota.specs.Turning.{onward};
-ghost use Rattle.rota.specs.Record.{unbroken};
+ghost use Rattle.rota.specs.Record.{unbroken, rotaAsked};
+ghost use Rattle.rota.specs.Numbers.{placeGiven};
 ghost use Rattle.rota.specs.Calls.{IsFresh, RotaAsks, RotaTurns};
 pub use line::Line;
 pub use line::PLACES;
+use line::place_in;
+use line::sound;
 
 // The record: the block that is next, and the line of the blocks that are asked for.
 pub struct Rota {
@@ -53,48 +60,54 @@ impl Rota {
     pub fn ask(self, n: u32, block: u32) -> RotaAsked
         ensures { λ r. ⌜ RotaAsks n self block r ⌝ }
     {
-        if self.unbroken(n) {
-            if n <= block {
-                return RotaAsked {
-                    place: Place::Refused(6),
-                    rota: self,
-                };
-            }
-            let next = self.next;
-            let line = self.line;
-            let at = line.place_of(block);
-            if at != 0 {
-                return RotaAsked {
-                    place: Place::Given(at),
-                    rota: self,
-                };
-            }
-            if line.full() {
-                return RotaAsked {
-                    place: Place::Refused(8),
-                    rota: self,
-                };
-            }
-            let longer = line.joined(block);
-            let last = longer.waiting;
-            return RotaAsked {
-                place: Place::Given(last),
-                rota: Rota { next, line: longer },
-            };
-        }
+        let next = self.next;
+        let line = self.line;
+        // One array, lent and changed in place: the compiler takes each copy of it apart word by word.
+        let mut asks = line.asks;
+        let place = self.join(&mut asks, n, block);
+        let waiting = waiting_after(line.waiting, place);
         RotaAsked {
-            place: Place::Refused(5),
-            rota: self,
+            place,
+            rota: Rota {
+                next,
+                line: Line { waiting, asks },
+            },
         }
+    }
+
+    // Answers an ask, and puts its block behind the line's `asks` where it has no place yet.
+    fn join(self, asks: &mut [u32; PLACES], n: u32, block: u32) -> Place
+        requires { ⌜ now asks ≡ self .line .asks ⌝ }
+        ensures { λ r. ⌜ (r ≡ rotaAsked n self block .place) × (now (asks .exit) ≡ rotaAsked n self block .rota .line .asks) ⌝ }
+    {
+        let line = self.line;
+        let waiting = line.waiting;
+        if unbroken(self.next, waiting, asks, n) {
+            if n <= block {
+                return Place::Refused(6);
+            }
+            let count = waiting as usize;
+            let at = place_in(asks, count, block) as u32;
+            if at != 0 {
+                return Place::Given(at);
+            }
+            if PLACES <= count {
+                return Place::Refused(8);
+            }
+            asks[count] = block;
+            return Place::Given(waiting + 1);
+        }
+        Place::Refused(5)
     }
 
     // The blocks whose turn it is, in a patrol of `n` blocks.
     pub fn turn(self, n: u32) -> RotaTurned
         ensures { λ r. ⌜ RotaTurns n self r ⌝ }
     {
-        if self.unbroken(n) {
-            let first = self.next;
-            let line = self.line;
+        let first = self.next;
+        let line = self.line;
+        let asks = line.asks;
+        if unbroken(first, line.waiting, &asks, n) {
             let next = onward(first, n);
             if line.waiting == 0 {
                 return RotaTurned {
@@ -102,7 +115,7 @@ impl Rota {
                     rota: Rota { next, line },
                 };
             }
-            let second = line.asks[0];
+            let second = asks[0];
             let rest = line.moved_up();
             return RotaTurned {
                 due: Due::Two(first, second),
@@ -114,17 +127,29 @@ impl Rota {
             rota: self,
         }
     }
+}
 
-    // Whether a patrol of `n` blocks can have this record.
-    fn unbroken(self, n: u32) -> bool
-        ensures { λ r. ⌜ r ≡ unbroken n self ⌝ }
-    {
-        if n <= self.next {
-            return false;
+// How many wait after an ask: a place behind the last one is new.
+fn waiting_after(waiting: u32, place: Place) -> u32
+    ensures { λ r. ⌜ r ≡ cond (ltb waiting (placeGiven place)) (placeGiven place) waiting ⌝ }
+{
+    if let Place::Given(at) = place {
+        if waiting < at {
+            return at;
         }
-        let line = self.line;
-        line.sound(n)
     }
+    waiting
+}
+
+// Whether a patrol of `n` blocks can have this record.
+fn unbroken(next: u32, waiting: u32, asks: &[u32; PLACES], n: u32) -> bool
+    requires { ⌜ length (now asks) ≡ places ⌝ }
+    ensures { λ r. ⌜ r ≡ unbroken n (record { next = next; line = record { waiting = waiting; asks = now (asks .entry) } }) ⌝ }
+{
+    if n <= next {
+        return false;
+    }
+    sound(waiting, asks, n)
 }
 
 // The block after `block`, round `n` blocks.

@@ -4,8 +4,8 @@ ghost use mathlib.Core.Bool.{_&&_};
 ghost use mathlib.Core.List.{[]};
 ghost use Prim.Native.Nat.{_≤_, _<_};
 ghost use lib.ListN.{length, take, drop};
-ghost use Rattle.rota.specs.Line.{places, place, below, noneTwice, zeros, full};
-ghost use Rattle.rota.specs.Line.{asksOf, sound, lineOf, longer, shorter, Tidy};
+ghost use Rattle.rota.specs.Line.{places, place, below, noneTwice, zeros};
+ghost use Rattle.rota.specs.Line.{sound, lineOf, shorter, Tidy};
 
 // How many blocks may wait.
 pub const PLACES: usize = 16;
@@ -27,36 +27,6 @@ impl Line {
         }
     }
 
-    // Whether every place is in use.
-    pub(crate) fn full(self) -> bool
-        ensures { λ r. ⌜ r ≡ full places (asksOf self) ⌝ }
-    {
-        PLACES <= self.waiting as usize
-    }
-
-    // The place of a block, from 1; 0 where it does not wait.
-    pub(crate) fn place_of(self, block: u32) -> u32
-        requires { ⌜ self .waiting ≤ places ⌝ }
-        ensures { λ r. ⌜ r ≡ place block (asksOf self) ⌝ }
-    {
-        let asks = self.asks;
-        place_in(&asks, self.waiting as usize, block) as u32
-    }
-
-    // One block more waits, behind the others.
-    pub(crate) fn joined(self, block: u32) -> Line
-        requires { ⌜ Tidy places self × (self .waiting < places) ⌝ }
-        ensures { λ r. ⌜ r ≡ longer places self block ⌝ }
-    {
-        let mut asks = self.asks;
-        let waiting = self.waiting;
-        asks[waiting as usize] = block;
-        Line {
-            waiting: waiting + 1,
-            asks,
-        }
-    }
-
     // The first block leaves, every other moves up by one place, and the last place holds 0.
     pub(crate) fn moved_up(self) -> Line
         requires { ⌜ Tidy places self × (0 < self .waiting) ⌝ }
@@ -75,26 +45,26 @@ impl Line {
             asks,
         }
     }
+}
 
-    // Whether a patrol of `n` blocks can have this line.
-    pub(crate) fn sound(self, n: u32) -> bool
-        ensures { λ r. ⌜ r ≡ sound places n self ⌝ }
-    {
-        let count = self.waiting as usize;
-        if PLACES < count {
-            return false;
-        }
-        let asks = self.asks;
-        if in_order(&asks, count, n) {
-            unused(&asks, count)
-        } else {
-            false
-        }
+// Whether a patrol of `n` blocks can have this line.
+pub(crate) fn sound(waiting: u32, asks: &[u32; PLACES], n: u32) -> bool
+    requires { ⌜ length (now asks) ≡ places ⌝ }
+    ensures { λ r. ⌜ r ≡ sound places n (record { waiting = waiting; asks = now (asks .entry) }) ⌝ }
+{
+    let count = waiting as usize;
+    if PLACES < count {
+        return false;
+    }
+    if in_order(asks, count, n) {
+        unused(asks, count)
+    } else {
+        false
     }
 }
 
 // The place of a block among the first `count`, from 1; 0 where it is not there.
-fn place_in(asks: &[u32; PLACES], count: usize, block: u32) -> usize
+pub(crate) fn place_in(asks: &[u32; PLACES], count: usize, block: u32) -> usize
     requires { ⌜ (length (now asks) ≡ places) × (count ≤ places) ⌝ }
     ensures { λ r. ⌜ r ≡ place block (take count (now (asks .entry))) ⌝ }
 {

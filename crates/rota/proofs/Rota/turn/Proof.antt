@@ -13,42 +13,39 @@ use Rattle.rota.proofs.Rota.turn.Tie as tie
 
 -- ---- what is known on the way
 
-long : (c : tie.Then1) → length (c .before .before .args .self .line .asks) ≡ places
+-- the start, from where the record is tested
+abbrev start : tie.After-unbroken → tie.Start
+start c = c .before .before .before .before
+
+long : (c : tie.Then1) → length (start (c .before) .args .self .line .asks) ≡ places
 long c = search needs
 
-ok : (c : tie.Then1) → unbroken (c .before .before .args .n) (c .before .before .args .self) ≡ true
+ok : (c : tie.Then1) → unbroken (start (c .before) .args .n) (start (c .before) .args .self) ≡ true
 ok c = sym (c .before .unbroken .ensures) ∙ c .if1 .taken
 
 -- where the next block is known
-abbrev accepted : tie.After-onward → tie.Then1
-accepted c = c .before .before
+abbrev onwards : tie.Else2 → tie.After-onward
+onwards c = c .before .before
 
 -- ---- the answers
 
-unbroken-requires : tie.Need-unbroken-requires
-unbroken-requires c κs = search needs
-
 onward-requires : tie.Need-onward-requires
-onward-requires c κs = next-inside _ _ (ok (c .before))
+onward-requires c κs = next-inside _ _ (ok c)
 
 returns : tie.Need-returns
 returns c =
-    let from = accepted (c .before) in
-    turns _ _ (turn-one _ _ (long from) (ok from) _ _ (c .before .onward .ensures) (c .if2 .taken) refl)
-
-element-copy-out-second : tie.Need-element-copy-out-second
-element-copy-out-second c = search needs
+    let at = c .before .before in
+    turns _ _ (turn-one _ _ (long (at .before)) (ok (at .before)) _ _ (at .onward .ensures) (c .if2 .taken) refl)
 
 moved-up-requires : tie.Need-moved-up-requires
 moved-up-requires c κs =
-    let from = accepted (c .before .before) in
-    (line-tidy _ _ (long from) (ok from), omega (arith, c .before .if2 .left))
+    let from = onwards c .before in
+    (line-tidy _ _ (long from) (ok from), omega (arith, c .if2 .left))
 
 returns-2 : tie.Need-returns-2
 returns-2 c =
-    let at = c .before .before .before in
-    let from = accepted at in
-    turns _ _ (turn-two _ _ (long from) (ok from) _ _ (at .onward .ensures) (omega (arith, c .before .before .if2 .left)) (c .moved-up .ensures))
+    let at = onwards (c .before) in
+    turns _ _ (turn-two _ _ (long (at .before)) (ok (at .before)) _ _ (at .onward .ensures) (omega (arith, c .before .if2 .left)) (c .moved-up .ensures))
 
 returns-3 : tie.Need-returns-3
 returns-3 c = turns _ _ (turn-broken _ _ (sym (c .before .unbroken .ensures) ∙ c .if1 .left))
@@ -57,10 +54,10 @@ pub turn-spec : {M : Type 1} → statement M
 turn-spec =
     tie.close
     (tie.spec
-    unbroken-requires
+    (λ c κs. search needs)
     onward-requires
     returns
-    element-copy-out-second
+    (λ c. search needs)
     moved-up-requires
     returns-2
     returns-3)
