@@ -1,10 +1,10 @@
 -- The definitions computed by words, 32 lanes at once, so that a worked example costs little to compute. Assumes nothing.
 use Prim.Native.Nat.{ℕ, zero, suc, _+_, _^_, _≤_, _<_}
 use mathlib.Core.Bool.{Bool, true, _&&_}
-use mathlib.Core.Path.{_≡_, sym, ap, _∙_}
+use mathlib.Core.Path.{_≡_, refl, sym, ap, _∙_}
 use mathlib.Core.List.{List, [], _∷_}
 use native.Mathlib.Omega.{arith}
-use lib.Bits.{bitXor, bitOr, or-lt}
+use lib.Bits.{bitXor}
 use lib.Dec.{ltb}
 use lib.ListN.{length, getD, set}
 use lib.Pow.{pow-pos}
@@ -13,16 +13,21 @@ use Rattle.lane.specs.Bit.{bit, pick}
 use Rattle.shape.specs.declared.Shape.{Shape}
 use Rattle.block.specs.declared.Verdict.the-variants.{Mended, Lost}
 use Rattle.shape.specs.Shape.{before, rows}
+use Rattle.shape.proofs.Sizes.{rows-fit}
 use Rattle.ground.specs.Totals.{total}
+use Rattle.ground.proofs.Bools.{both}
+use Rattle.block.specs.Words.{row}
 use Rattle.block.specs.Block.{dataBlock, validBlock, mendedBlock}
 use Rattle.block.specs.Verdict.{verdictOf}
-use Rattle.block.specs.Inner.{sumsOf, anyOf, lostLanes, flippedIn, xorAll, withChecks}
-use Rattle.ground.proofs.Bools.{both}
-use Rattle.ground.proofs.Lists.{getD-listOf}
+use Rattle.block.specs.Sums.{sumsOf}
+use Rattle.block.specs.Inner.{xorRows, anyOf, lostLanes, flippedIn, xorAll, withChecks}
+use Rattle.block.proofs.RowSums.{sums-are}
+use Rattle.block.proofs.Doubt.{word-lt, any-lt}
 use Rattle.block.proofs.Lanes.{ones-total}
-use Rattle.shape.proofs.Sizes.{rows-fit}
-use Rattle.block.proofs.Judged.{lost-lt, lost-verdict, lost-block, mended-verdict, mended-block}
-use Rattle.block.proofs.Encoding.{xor-over-lt, built}
+use Rattle.block.proofs.Judged.{lost-lt, lost-decides, mended-decides}
+use Rattle.block.proofs.Decided.{decided}
+use Rattle.block.proofs.Data.{data-lt}
+use Rattle.block.proofs.Encoding.{built}
 
 -- every word of a list fits in 32 bits
 unfoldable pub fit? : List ℕ → Bool
@@ -39,50 +44,61 @@ fit-each (w ∷ list) e (suc k) = fit-each list (both (ltb w (2 ^ 32)) (fit? lis
 abbrev pub bits : ℕ → ℕ
 bits w = total 32 (λ i. pick (bit i w) 1)
 
+-- the sums of a block, row by row
+abbrev pub rowSums : Shape → List ℕ → List ℕ
+rowSums shape block =
+    let digit : ℕ → ℕ = λ k. xorRows (bit k) (before shape) (λ p. row p block) in
+    digit 0 ∷ digit 1 ∷ digit 2 ∷ digit 3 ∷ digit 4 ∷ digit 5 ∷ digit 6 ∷ xorRows (λ p. true) (rows shape) (λ p. row p block) ∷ []
+
+row-sums : (shape : Shape) (block : List ℕ) → ((k : ℕ) → getD block k 0 < 2 ^ 32) → rowSums shape block ≡ sumsOf shape block
+row-sums shape block fits = sums-are shape block (λ p. row p block) each (λ p f l. refl) refl refl refl refl refl refl refl refl
+  where
+    each : (p : ℕ) → row p block < 2 ^ 32
+    each zero = pow-pos 32
+    each (suc j) = fits j
+
 pub written : (shape : Shape) (list : List ℕ) → fit? list ≡ true
     → validBlock shape list
-    ≡ set (withChecks (sumsOf shape (dataBlock shape list) .digits) (dataBlock shape list)) (before shape)
-    (bitXor (sumsOf shape (dataBlock shape list) .parity) (xorAll 7 (sumsOf shape (dataBlock shape list) .digits)))
-written shape list e = sym (built shape list (fit-each list e))
+    ≡ set (withChecks (rowSums shape (dataBlock shape list)) (dataBlock shape list)) (before shape)
+    (bitXor (getD (rowSums shape (dataBlock shape list)) 7 0) (xorAll 7 (rowSums shape (dataBlock shape list))))
+written shape list e =
+    let block = dataBlock shape list in
+    sym
+    (ap (λ (sums : List ℕ). set (withChecks sums block) (before shape) (bitXor (getD sums 7 0) (xorAll 7 sums)))
+    (row-sums shape block (data-lt shape list (fit-each list e)))
+    ∙ built shape list (fit-each list e))
 
 module _ (shape : Shape) (block : List ℕ) (fit : fit? block ≡ true) (long : length block ≡ 72) where
-  abbrev digits : List ℕ
-  digits = sumsOf shape block .digits
+  abbrev sums : List ℕ
+  sums = rowSums shape block
 
   abbrev parity : ℕ
-  parity = sumsOf shape block .parity
-
-  parity-lt : parity < 2 ^ 32
-  parity-lt = xor-over-lt _ block (fit-each block fit)
-
-  digit-lt : (k : ℕ) → k < 7 → getD digits k 0 < 2 ^ 32
-  digit-lt k h = rw (getD-listOf 7 _ k h) (xor-over-lt _ block (fit-each block fit))
-
-  any-lt : (k : ℕ) → k ≤ 7 → anyOf k digits < 2 ^ 32
-  unfolding anyOf
-  any-lt zero h = pow-pos 32
-  any-lt (suc k) h = or-lt 32 (anyOf k digits) (getD digits k 0) (any-lt k (omega arith)) (digit-lt k (omega arith))
+  parity = getD sums 7 0
 
   abbrev lost : ℕ
-  lost = lostLanes (before shape) parity digits
+  lost = lostLanes (before shape) parity sums
 
-  any-small : anyOf 7 digits < 2 ^ 32
-  any-small = any-lt 7 (omega arith)
+  are : sums ≡ sumsOf shape block
+  are = row-sums shape block (fit-each block fit)
+
+  parity-lt : parity < 2 ^ 32
+  parity-lt = omega (arith, ap (λ (l : List ℕ). getD l 7 0) are, word-lt shape block 7 (omega arith))
+
+  any-small : anyOf 7 sums < 2 ^ 32
+  any-small = omega (arith, ap (anyOf 7) are, any-lt shape block 7 (omega arith))
 
   whole : rows shape ≤ length block
   whole = let h = rows-fit shape in omega arith
 
   -- a lost block: how many lanes, and the block as it was
   pub lost-by-words : (lost ≡ 0 → ⊥) → (verdictOf shape block ≡ Lost (bits lost)) × (mendedBlock shape block ≡ block)
-  lost-by-words ne = (
-    sym (ap Lost (sym (ones-total 32 lost (lost-lt shape block parity-lt any-small))) ∙ lost-verdict shape block parity-lt any-small whole ne),
-    sym (lost-block shape block parity-lt any-small whole ne),
-  )
+  lost-by-words ne =
+      let d = decided shape block whole are (lost-decides shape sums parity-lt any-small block ne) in
+      (sym (d .0) ∙ ap Lost (ones-total 32 lost (lost-lt shape sums parity-lt any-small)), sym (d .1))
 
   -- a mended block: how many odd lanes, and the row that each one's sum names flipped
-  pub mended-by-words : lost ≡ 0 → (bitOr (anyOf 7 digits) parity ≡ 0 → ⊥)
-      → (verdictOf shape block ≡ Mended (bits parity)) × (mendedBlock shape block ≡ flippedIn (before shape + 1) digits (λ i. bit i parity) block)
-  mended-by-words z ne = (
-    sym (ap Mended (sym (ones-total 32 parity parity-lt)) ∙ mended-verdict shape block parity-lt any-small whole z ne),
-    sym (mended-block shape block parity-lt any-small whole z),
-  )
+  pub mended-by-words : lost ≡ 0 → (parity ≡ 0 → ⊥)
+      → (verdictOf shape block ≡ Mended (bits parity)) × (mendedBlock shape block ≡ flippedIn (before shape + 1) sums (λ i. bit i parity) block)
+  mended-by-words z ne =
+      let d = decided shape block whole are (mended-decides shape sums parity-lt any-small block z ne) in
+      (sym (d .0) ∙ ap Mended (ones-total 32 parity parity-lt), sym (d .1))

@@ -2,34 +2,36 @@
 use Prim.Native.Nat.{ℕ, zero, suc, _-_, _^_, _≤_, _<_}
 use mathlib.Core.Bool.{Bool, false, cond, _&&_, and-true, and-false}
 use mathlib.Core.Path.{_≡_, refl, sym, ap, ap₂, _∙_}
-use mathlib.Core.List.{List, [], _∷_}
+use mathlib.Core.List.{List}
 use mathlib.Core.Logic.{⊎-elim, by-cases}
 use native.Mathlib.Decide.{ℕ-discrete}
-use native.Mathlib.Nat.{le-refl}
+use native.Mathlib.Nat.{le-refl, eq-or-lt-of-le, le-of-suc-le-suc, add-zero}
 use native.Mathlib.Omega.{arith}
-use lib.Bits.{bitXor, xor-lt}
+use lib.Bits.{bitXor, bitOr, xor-lt, xor-zero-r, or-add-and, and-le-l, and-le-r}
 use lib.Dec.{eqb, ltb, lit≤}
-use lib.ListN.{length, getD, set, length-set}
+use lib.ListN.{length, getD, set, replicate, length-set}
 use lib.Pow.{pow-pos, pow-mono, pow-lt}
-use lib.Seq.{getD-set-same, getD-set-other}
+use lib.Seq.{getD-set-same, getD-set-other, ext-getD}
 use borrow.Author.Tests.{eq-eqb, ne-eqb, lt-ltb, le-ltb}
 use Rattle.lane.specs.Bit.{bit, _⊕_}
-use Rattle.lane.specs.Lane.{sum, odd}
-use Rattle.lane.specs.Rows.{power?, DataRow, covered}
+use Rattle.lane.specs.Lane.{Lane, sum, count, odd}
+use Rattle.lane.specs.Rows.{power?, DataRow}
 use Rattle.lane.specs.Encoded.{named, summed, encoded}
-use Rattle.lane.proofs.Bits.{bit-zero, bit-xor, bit-high, bit-ext, ⊕-zero}
+use Rattle.lane.proofs.Bits.{bit-zero, bit-xor, bit-high, bit-ext-below, ⊕-zero}
 use Rattle.lane.proofs.Rows.{either, split-below, power-found, power-none}
 use Rattle.lane.proofs.Exactly.{sum-lt, named-off, named-on, xorDigits, summed-odd, encoded-data}
 use Rattle.shape.specs.declared.Shape.{Shape}
 use Rattle.shape.specs.declared.Shape.the-variants.{One, Two}
 use Rattle.shape.specs.Shape.{before, rows, digits}
-use Rattle.block.specs.Words.{row, lane, word}
+use Rattle.block.specs.Words.{lane, word}
 use Rattle.ground.proofs.Stores.{length-stores, stores-hit, stores-miss}
 use Rattle.block.specs.Block.{dataBlock, validBlock}
-use Rattle.block.specs.Inner.{xorOver, sumsOf, xorAll, withChecks}
-use Rattle.block.proofs.WordBits.{number-bits}
-use Rattle.ground.proofs.Lists.{getD-listOf, list-is}
-use Rattle.block.proofs.Lanes.{bit-covered, bit-all}
+use Rattle.block.specs.Sums.{lying, sumsOf}
+use Rattle.block.specs.Inner.{anyOf, Kept, xorAll, withChecks}
+use Rattle.block.proofs.WordBits.{number-bits, number-same}
+use Rattle.ground.proofs.Lists.{list-is, zeros-at}
+use Rattle.block.proofs.RowSums.{same-eight}
+use Rattle.block.proofs.Doubt.{digit-in, odd-in, word-lt}
 use Rattle.shape.proofs.Sizes.{before-lt}
 use Rattle.block.proofs.Data.{before-digits, length-data, data-miss, data-lt}
 
@@ -70,15 +72,6 @@ xor-seven One s h =
     ∙ none
 xor-seven Two s h = refl
 
-pub xor-over-lt : (list block : List ℕ) → ((j : ℕ) → getD block j 0 < 2 ^ 32) → xorOver list block < 2 ^ 32
-unfolding xorOver
-xor-over-lt [] block h = pow-pos 32
-xor-over-lt (p ∷ list) block h = xor-lt 32 (row p block) (xorOver list block) (row-lt p) (xor-over-lt list block h)
-  where
-    row-lt : (p : ℕ) → row p block < 2 ^ 32
-    row-lt zero = pow-pos 32
-    row-lt (suc j) = h j
-
 module _ (shape : Shape) (list : List ℕ) (words-fit : (k : ℕ) → getD list k 0 < 2 ^ 32) where
   abbrev m : ℕ
   m = before shape
@@ -86,12 +79,15 @@ module _ (shape : Shape) (list : List ℕ) (words-fit : (k : ℕ) → getD list 
   abbrev dataRows : List ℕ
   dataRows = dataBlock shape list
 
+  abbrev sums : List ℕ
+  sums = sumsOf shape dataRows
+
   -- digit k of every lane's sum, as a word
   abbrev digitWord : ℕ → ℕ
-  digitWord k = getD (sumsOf shape dataRows .digits) k 0
+  digitWord k = getD sums k 0
 
   abbrev lastWord : ℕ
-  lastWord = bitXor (sumsOf shape dataRows .parity) (xorAll 7 (sumsOf shape dataRows .digits))
+  lastWord = bitXor (getD sums 7 0) (xorAll 7 sums)
 
   abbrev sumOf : ℕ → ℕ
   sumOf i = sum m (lane i dataRows)
@@ -102,31 +98,29 @@ module _ (shape : Shape) (list : List ℕ) (words-fit : (k : ℕ) → getD list 
   fits : (j : ℕ) → getD dataRows j 0 < 2 ^ 32
   fits = data-lt shape list words-fit
 
-  digit-bit : (i k : ℕ) → k < 7 → bit i (digitWord k) ≡ bit k (sumOf i)
-  digit-bit i k h = ap (bit i) (getD-listOf 7 (λ k. xorOver (covered k m) dataRows) k h) ∙ bit-covered i k m dataRows
-
   digit-lt : (k : ℕ) → k < 7 → digitWord k < 2 ^ 32
-  digit-lt k h = rw (getD-listOf 7 (λ k. xorOver (covered k m) dataRows) k h) (xor-over-lt (covered k m) dataRows fits)
+  digit-lt k h = word-lt shape dataRows k (omega arith)
 
   digit-none : (k : ℕ) → digits shape ≤ k → k < 7 → digitWord k ≡ 0
   digit-none k h l =
-      bit-ext (digitWord k) 0 (λ i. digit-bit i k l ∙ bit-high (digits shape) k (sumOf i) (sum-small i) h ∙ sym (bit-zero i))
+      bit-ext-below 32 (digitWord k) 0 (digit-lt k l) (pow-pos 32)
+      (λ i g. digit-in shape dataRows k i l g ∙ bit-high (digits shape) k (sumOf i) (sum-small i) h ∙ sym (bit-zero i))
 
-  all-bit : (i k : ℕ) → k ≤ 7 → bit i (xorAll k (sumsOf shape dataRows .digits)) ≡ xorDigits k (sumOf i)
+  all-bit : (i k : ℕ) → i < 32 → k ≤ 7 → bit i (xorAll k sums) ≡ xorDigits k (sumOf i)
   unfolding xorAll xorDigits
-  all-bit i zero h = bit-zero i
-  all-bit i (suc k) h =
-      bit-xor i (xorAll k (sumsOf shape dataRows .digits)) (digitWord k) ∙ ap₂ _⊕_ (all-bit i k (omega arith)) (digit-bit i k (omega arith))
+  all-bit i zero g h = bit-zero i
+  all-bit i (suc k) g h =
+      bit-xor i (xorAll k sums) (digitWord k) ∙ ap₂ _⊕_ (all-bit i k g (omega arith)) (digit-in shape dataRows k i (omega arith) g)
 
-  all-lt : (k : ℕ) → k ≤ 7 → xorAll k (sumsOf shape dataRows .digits) < 2 ^ 32
+  all-lt : (k : ℕ) → k ≤ 7 → xorAll k sums < 2 ^ 32
   unfolding xorAll
   all-lt zero h = pow-pos 32
-  all-lt (suc k) h = xor-lt 32 (xorAll k (sumsOf shape dataRows .digits)) (digitWord k) (all-lt k (omega arith)) (digit-lt k (omega arith))
+  all-lt (suc k) h = xor-lt 32 (xorAll k sums) (digitWord k) (all-lt k (omega arith)) (digit-lt k (omega arith))
 
-  last-bit : (i : ℕ) → bit i lastWord ≡ odd (rows shape) (summed (digits shape) m (lane i dataRows))
-  last-bit i =
-      bit-xor i (sumsOf shape dataRows .parity) (xorAll 7 (sumsOf shape dataRows .digits))
-      ∙ ap₂ _⊕_ (bit-all i (rows shape) dataRows) (all-bit i 7 (le-refl 7) ∙ xor-seven shape (sumOf i) (sum-small i))
+  last-bit : (i : ℕ) → i < 32 → bit i lastWord ≡ odd (rows shape) (summed (digits shape) m (lane i dataRows))
+  last-bit i g =
+      bit-xor i (getD sums 7 0) (xorAll 7 sums)
+      ∙ ap₂ _⊕_ (odd-in shape dataRows i g) (all-bit i 7 g (le-refl 7) ∙ xor-seven shape (sumOf i) (sum-small i))
       ∙ sym (summed-odd (digits shape) m (lane i dataRows) (before-digits shape))
 
   -- ---- each kind of row holds what the encoded lanes say
@@ -142,9 +136,9 @@ module _ (shape : Shape) (list : List ℕ) (words-fit : (k : ℕ) → getD list 
 
   pub last-row : lastWord ≡ word (coded m)
   last-row =
-      number-bits 32 lastWord (coded m) (xor-lt 32 _ _ (xor-over-lt _ dataRows fits) (all-lt 7 (le-refl 7)))
+      number-bits 32 lastWord (coded m) (xor-lt 32 _ _ (word-lt shape dataRows 7 (omega arith)) (all-lt 7 (le-refl 7)))
       (λ i h.
-      last-bit i
+      last-bit i h
       ∙ sym
       (ap₂ _⊕_
       (ap₂ _⊕_ (zero-lane m (λ d. let l = d .last in omega arith) i) (named-off (digits shape) (sumOf i) (rows shape) (last-no-power shape)))
@@ -155,7 +149,7 @@ module _ (shape : Shape) (list : List ℕ) (words-fit : (k : ℕ) → getD list 
       let k = digits-le shape in
       number-bits 32 (digitWord l) (coded j) (digit-lt l (omega arith))
       (λ i g.
-      digit-bit i l (omega arith)
+      digit-in shape dataRows l i (omega arith) g
       ∙ sym
       (ap₂ _⊕_
       (ap₂ _⊕_ (zero-lane j (λ d. d .no-power l e) i) (ap (named (digits shape) (sumOf i)) e ∙ named-on (digits shape) (sumOf i) l h))
@@ -170,7 +164,7 @@ module _ (shape : Shape) (list : List ℕ) (words-fit : (k : ℕ) → getD list 
   -- ---- the whole block
 
   abbrev withDigits : List ℕ
-  withDigits = withChecks (sumsOf shape dataRows .digits) dataRows
+  withDigits = withChecks sums dataRows
 
   length-checks : length withDigits ≡ 72
   unfolding withChecks
@@ -234,3 +228,72 @@ module _ (shape : Shape) (list : List ℕ) (words-fit : (k : ℕ) → getD list 
       let n = length-checks in
       rw e (getD-set-same withDigits m lastWord 0 (omega arith) ∙ last-row ∙ sym (meant-in m (omega arith))))
       (λ ne. getD-set-other withDigits m j lastWord 0 ne ∙ at-place j ne))
+
+-- ---- the sums as the code works them out
+
+-- rows without a one add nothing
+module _ (m : ℕ) (f : Lane) (none : (p : ℕ) → m < p → f p ≡ false) where
+  sum-more : (n : ℕ) → m ≤ n → sum n f ≡ sum m f
+  unfolding sum
+  sum-more zero h = let e : 0 ≡ m = omega arith in ap (λ (k : ℕ). sum k f) e
+  sum-more (suc n) h =
+      ⊎-elim (λ e. ap (λ (k : ℕ). sum k f) (sym e))
+      (λ l. rw (none (suc n) l) (xor-zero-r (sum n f) ∙ sum-more n (le-of-suc-le-suc l)))
+      (eq-or-lt-of-le h)
+
+  count-more : (n : ℕ) → m ≤ n → count n f ≡ count m f
+  unfolding count
+  count-more zero h = let e : 0 ≡ m = omega arith in ap (λ (k : ℕ). count k f) e
+  count-more (suc n) h =
+      ⊎-elim (λ e. ap (λ (k : ℕ). count k f) (sym e))
+      (λ l. rw (none (suc n) l) (add-zero (count n f) ∙ count-more n (le-of-suc-le-suc l)))
+      (eq-or-lt-of-le h)
+
+past-rows : (list : List ℕ) (i p : ℕ) → 15 < p → lane i (dataBlock One list) p ≡ false
+past-rows list i zero h = absurd (omega arith)
+past-rows list i (suc j) h = ap (bit i) (data-miss One list j (λ d. let l = d .last in omega arith)) ∙ bit-zero i
+
+-- the rows past the last of shape 1 are zero in its data block: the sums of shape 2 serve both
+sums-of-two : (shape : Shape) (list : List ℕ) → sumsOf Two (dataBlock shape list) ≡ sumsOf shape (dataBlock shape list)
+unfolding sumsOf
+sums-of-two Two list = refl
+sums-of-two One list =
+    same-eight (digit 0) (digit 1) (digit 2) (digit 3) (digit 4) (digit 5) (digit 6)
+    (number-same 32 _ _ (λ i h. ap (bit 0) (count-more 16 _ (λ p l. past-rows list i p (omega arith)) 72 (lit≤ tt))))
+  where
+    digit : (k : ℕ) → word (λ i. bit k (sum 71 (lane i (dataBlock One list)))) ≡ word (λ i. bit k (sum 15 (lane i (dataBlock One list))))
+    digit k = number-same 32 _ _ (λ i h. ap (bit k) (sum-more 15 _ (past-rows list i) 71 (lit≤ tt)))
+
+-- a block of shape 2 lies in its own words
+lies-whole : (block : List ℕ) → length block ≡ 72 → lying Two block 0 1 ≡ block
+unfolding lying
+lies-whole block e = sym (list-is 72 block _ e (λ j h. ap (λ (k : ℕ). getD block k 0) (omega arith)))
+
+-- where no lane has a one in any word, each word is zero
+or-none : (a b : ℕ) → bitOr a b ≡ 0 → (a ≡ 0) × (b ≡ 0)
+or-none a b e = (omega (arith, or-add-and a b, and-le-r a b), omega (arith, or-add-and a b, and-le-l a b))
+
+any-none : (l : List ℕ) (n : ℕ) → anyOf n l ≡ 0 → (k : ℕ) → k < n → getD l k 0 ≡ 0
+unfolding anyOf
+any-none l zero e k h = absurd (omega arith)
+any-none l (suc n) e k h =
+    let o = or-none (anyOf n l) (getD l n 0) e in
+    ⊎-elim (λ q. ap (λ (j : ℕ). getD l j 0) q ∙ o .1) (λ b. any-none l n (o .0) k b) (eq-or-lt-of-le (le-of-suc-le-suc h))
+
+-- words kept in zeros are there either way: those that are not kept are zeros themselves
+kept-in-zeros : (l after : List ℕ) (found : ℕ) → length l ≡ 8 → Kept l found (replicate 8 0) after → after ≡ l
+kept-in-zeros l after zero e k = k .1 ∙ sym (ext-getD 0 l (replicate 8 0) e (λ j h. any-none l 8 (sym (k .0)) j (omega arith) ∙ sym (zeros-at 8 j)))
+kept-in-zeros l after (suc n) e k = k .1
+
+eight : (block : List ℕ) → length (sumsOf Two block) ≡ 8
+unfolding sumsOf
+eight block = refl
+
+-- the sums of shape 2, kept in zeros, of a data block of either shape are its own
+pub own-sums : (shape : Shape) (list : List ℕ) {block after : List ℕ} {found : ℕ} → block ≡ dataBlock shape list
+    → Kept (sumsOf Two (lying Two block 0 1)) found (replicate 8 0) after
+    → after ≡ sumsOf shape (dataBlock shape list)
+own-sums shape list {block} {after} {found} e k =
+    kept-in-zeros _ after found (eight (lying Two block 0 1)) k
+    ∙ ap (sumsOf Two) (lies-whole block (ap length e ∙ length-data shape list) ∙ e)
+    ∙ sums-of-two shape list

@@ -19,7 +19,8 @@ use Rattle.lane.proofs.Bits.{bit-zero, bit-xor, bit-and, bit-ext-below, xor-ass
 use Rattle.lane.proofs.Rows.{power-digit, power-apart}
 use Rattle.ground.proofs.Lists.{length-listOf, getD-listOf, list-is, listOf-same}
 use Rattle.block.specs.Words.{word}
-use Rattle.block.specs.Inner.{sumAt, rowNamed, flippedIn}
+use Rattle.block.specs.Sums.{sumIn}
+use Rattle.block.specs.Inner.{rowNamed, flippedIn}
 use Rattle.block.proofs.WordBits.{number-lt, number-bits, number-same, bit-number}
 
 -- ---- the lowest set lane
@@ -67,7 +68,7 @@ word-none = sym (number-bits 32 0 (λ i. false) (pow-pos 32) (λ i l. bit-zero i
 module _ (last : ℕ) (digits block : List ℕ) where
   -- the lanes that are to be flipped in row j + 1
   abbrev here : (ℕ → Bool) → ℕ → ℕ → Bool
-  here lanes j i = lanes i && eqb (suc j) (rowNamed last (sumAt digits i))
+  here lanes j i = lanes i && eqb (suc j) (rowNamed last (sumIn digits i))
 
   pub flipped-same : (f g : ℕ → Bool) → ((i : ℕ) → i < 32 → f i ≡ g i) → flippedIn last digits f block ≡ flippedIn last digits g block
   unfolding flippedIn
@@ -75,7 +76,7 @@ module _ (last : ℕ) (digits block : List ℕ) where
       listOf-same (length block) _ _
       (λ j h.
       ap (bitXor (getD block j 0))
-      (number-same 32 (here f j) (here g j) (λ i l. ap (λ (b : Bool). b && eqb (suc j) (rowNamed last (sumAt digits i))) (e i l))))
+      (number-same 32 (here f j) (here g j) (λ i l. ap (λ (b : Bool). b && eqb (suc j) (rowNamed last (sumIn digits i))) (e i l))))
 
   pub flipped-none : block ≡ flippedIn last digits (λ i. false) block
   unfolding flippedIn
@@ -85,20 +86,20 @@ module _ (last : ℕ) (digits block : List ℕ) where
     abbrev more : ℕ → Bool
     more k = lanes k ⊕ eqb k i
 
-    lane-there : (j : ℕ) → suc j ≡ rowNamed last (sumAt digits i) → (k : ℕ) → here lanes j k ⊕ eqb k i ≡ here more j k
+    lane-there : (j : ℕ) → suc j ≡ rowNamed last (sumIn digits i) → (k : ℕ) → here lanes j k ⊕ eqb k i ≡ here more j k
     lane-there j e k =
         by-cases (ℕ-discrete k i)
-        (λ q. rw q (rw (off, eq-eqb i i refl, eq-eqb (suc j) (rowNamed last (sumAt digits i)) e)))
+        (λ q. rw q (rw (off, eq-eqb i i refl, eq-eqb (suc j) (rowNamed last (sumIn digits i)) e)))
         (λ ne. rw (ne-eqb k i ne, ⊕-zero (lanes k), ⊕-zero (here lanes j k)))
 
-    lane-elsewhere : (j : ℕ) → (suc j ≡ rowNamed last (sumAt digits i) → ⊥) → (k : ℕ) → here lanes j k ≡ here more j k
+    lane-elsewhere : (j : ℕ) → (suc j ≡ rowNamed last (sumIn digits i) → ⊥) → (k : ℕ) → here lanes j k ≡ here more j k
     lane-elsewhere j ne k =
         by-cases (ℕ-discrete k i)
-        (λ q. rw q (rw (off, eq-eqb i i refl, ne-eqb (suc j) (rowNamed last (sumAt digits i)) ne)))
+        (λ q. rw q (rw (off, eq-eqb i i refl, ne-eqb (suc j) (rowNamed last (sumIn digits i)) ne)))
         (λ nq. rw (ne-eqb k i nq, ⊕-zero (lanes k)))
 
     -- flipping the bit of lane i in the row that its sum names adds that lane
-    pub flip-more : (p : ℕ) → p ≡ rowNamed last (sumAt digits i) → 1 ≤ p
+    pub flip-more : (p : ℕ) → p ≡ rowNamed last (sumIn digits i) → 1 ≤ p
         → set (flippedIn last digits lanes block) (p - 1) (bitXor (getD (flippedIn last digits lanes block) (p - 1) 0) (2 ^ i))
         ≡ flippedIn last digits (λ k. lanes k ⊕ eqb k i) block
     unfolding flippedIn
@@ -150,7 +151,7 @@ module _ (last : ℕ) (digits block : List ℕ) (parity : ℕ) where
         by-cases (ℕ-discrete k i) (λ q. rw q (within i on))
         (λ ne. within k (sym (bit-cleared left i k ∙ ap (λ (b : Bool). bit k left ⊕ b) (ne-eqb k i ne) ∙ ⊕-zero (bit k left)) ∙ e))
 
-    pub next-done : (p : ℕ) → p ≡ rowNamed last (sumAt digits i) → 1 ≤ p
+    pub next-done : (p : ℕ) → p ≡ rowNamed last (sumIn digits i) → 1 ≤ p
         → set (doneBut left) (p - 1) (bitXor (getD (doneBut left) (p - 1) 0) (2 ^ i)) ≡ doneBut (bitXor left (2 ^ i))
     next-done p e l =
         flip-more last digits block (λ k. bit k parity && not (bit k left)) i hi (rw (on, within i on)) p e l

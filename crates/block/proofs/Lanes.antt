@@ -2,83 +2,22 @@
 use Prim.Native.Nat.{ℕ, zero, suc, _+_, _*_, _/_, _%_, _^_, _<_}
 use mathlib.Core.Bool.{Bool, true, false, not, cond, _&&_, _||_}
 use mathlib.Core.Path.{_≡_, refl, sym, ap, ap₂, _∙_}
-use mathlib.Core.List.{List, [], _∷_, _++_, append-nil}
+use mathlib.Core.List.{List}
 use native.Mathlib.Nat.{mod-lt, pow-suc}
 use native.Mathlib.Omega.{arith}
-use lib.Bits.{bitXor, bitAnd, bitOr, xor-zero-r}
+use lib.Bits.{bitAnd, bitOr}
 use lib.Count.{ones, onesIn, ones-step}
 use lib.Dec.{eqb, ltb, leb, eqb·suc-zero}
 use lib.ListN.{getD}
 use lib.Pow.{pow-pos, mod-pow-add}
 use borrow.Author.Tests.{ne-eqb, lt-ltb, le-ltb, ltb-true, ltb-false}
-use Rattle.lane.specs.Bit.{set?, bit, _⊕_, pick}
-use Rattle.lane.specs.Lane.{sum, count, odd}
-use Rattle.lane.specs.Rows.{rowsWhere, covered}
+use Rattle.lane.specs.Bit.{set?, bit, pick}
 use Rattle.lane.specs.Decision.{flipped, lost, decision, lost?}
-use Rattle.lane.proofs.Bits.{bit-zero, bit-xor, bit-and, bit-or, bit-shift, xor-swap}
-use Rattle.lane.proofs.Linear.{odd-suc}
-use Rattle.lane.proofs.Exactly.{pick-bit, sum-lt}
+use Rattle.lane.proofs.Bits.{bit-zero, bit-and, bit-or, bit-shift}
 use Rattle.ground.specs.Totals.{total}
-use Rattle.ground.specs.Lists.{listOf}
-use Rattle.block.specs.Words.{row, lane, number}
-use Rattle.ground.proofs.Lists.{getD-listOf}
-use Rattle.block.specs.Inner.{xorOver, anyOf, aboveOf, sumAt}
-use Rattle.block.proofs.WordBits.{xor-snoc, number-lt, number-bits}
-
--- ---- the digits of the sums, and the parities
-
-xor-where : (test : ℕ → Bool) (n : ℕ) (block : List ℕ)
-    → xorOver (rowsWhere test (suc n)) block ≡ bitXor (xorOver (rowsWhere test n) block) (pick (test (suc n)) (row (suc n) block))
-unfolding rowsWhere
-xor-where test n block = go (test (suc n))
-  where
-    go : (b : Bool) → xorOver (rowsWhere test n ++ cond b (suc n ∷ []) []) block ≡ bitXor (xorOver (rowsWhere test n) block) (pick b (row (suc n) block))
-    go true = xor-snoc (rowsWhere test n) (suc n) block
-    go false = ap (λ (l : List ℕ). xorOver l block) (append-nil (rowsWhere test n)) ∙ sym (xor-zero-r (xorOver (rowsWhere test n) block))
-
--- the rows that pass a test are those that pass another too, and those that fail it
-pub xor-parts : (t u : ℕ → Bool) (n : ℕ) (block : List ℕ)
-    → bitXor (xorOver (rowsWhere (λ p. t p && u p) n) block) (xorOver (rowsWhere (λ p. t p && not (u p)) n) block) ≡ xorOver (rowsWhere t n) block
-xor-parts t u zero block = unfold rowsWhere in (unfold xorOver in refl)
-xor-parts t u (suc n) block =
-    ap₂ bitXor (xor-where (λ p. t p && u p) n block) (xor-where (λ p. t p && not (u p)) n block)
-    ∙ xor-swap (xorOver (rowsWhere (λ p. t p && u p) n) block) _ (xorOver (rowsWhere (λ p. t p && not (u p)) n) block) _
-    ∙ ap₂ bitXor (xor-parts t u n block) (one (t (suc n)) (u (suc n)) (row (suc n) block)) ∙ sym (xor-where t n block)
-  where
-    one : (a b : Bool) (w : ℕ) → bitXor (pick (a && b) w) (pick (a && not b) w) ≡ pick a w
-    one true true w = xor-zero-r w
-    one true false w = refl
-    one false b w = refl
-
-and-comm : (a b : Bool) → a && b ≡ b && a
-and-comm true true = refl
-and-comm true false = refl
-and-comm false true = refl
-and-comm false false = refl
-
--- bit i of the word for digit k is digit k of lane i's sum
-pub bit-covered : (i k m : ℕ) (block : List ℕ) → bit i (xorOver (covered k m) block) ≡ bit k (sum m (lane i block))
-unfolding sum
-bit-covered i k zero block = unfold rowsWhere in (unfold xorOver in (bit-zero i ∙ sym (bit-zero k)))
-bit-covered i k (suc m) block =
-    ap (bit i) (xor-where (bit k) m block) ∙ bit-xor i (xorOver (covered k m) block) (pick (bit k (suc m)) (row (suc m) block))
-    ∙ ap₂ _⊕_ (bit-covered i k m block)
-    (pick-bit i (bit k (suc m)) (row (suc m) block) ∙ and-comm (bit k (suc m)) (lane i block (suc m)) ∙ sym (pick-bit k (lane i block (suc m)) (suc m)))
-    ∙ sym (bit-xor k (sum m (lane i block)) (pick (lane i block (suc m)) (suc m)))
-
--- bit i of the word over all rows is lane i's parity
-pub bit-all : (i n : ℕ) (block : List ℕ) → bit i (xorOver (rowsWhere (λ p. true) n) block) ≡ odd n (lane i block)
-bit-all i zero block = unfold rowsWhere in (unfold xorOver in (unfold count in (bit-zero i ∙ sym (bit-zero 0))))
-bit-all i (suc n) block =
-    ap (bit i) (xor-where (λ p. true) n block) ∙ bit-xor i (xorOver (rowsWhere (λ p. true) n) block) (row (suc n) block)
-    ∙ ap (λ (b : Bool). b ⊕ lane i block (suc n)) (bit-all i n block) ∙ sym (odd-suc n (lane i block))
-
--- so the digits' words hold lane i's sum
-pub sum-at : (i m : ℕ) (block : List ℕ) → m < 2 ^ 7 → sumAt (listOf 7 (λ k. xorOver (covered k m) block)) i ≡ sum m (lane i block)
-sum-at i m block h =
-    sym
-    (number-bits 7 (sum m (lane i block)) _ (sum-lt 7 m (lane i block) h)
-    (λ k l. sym (ap (bit i) (getD-listOf 7 (λ k. xorOver (covered k m) block) k l) ∙ bit-covered i k m block)))
+use Rattle.block.specs.Words.{number}
+use Rattle.block.specs.Inner.{anyOf, aboveOf}
+use Rattle.block.proofs.WordBits.{number-lt}
 
 -- ---- the lanes with a sum, and those with a sum above a number
 

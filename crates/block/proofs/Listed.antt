@@ -1,20 +1,15 @@
--- The rule of the tables of rows: each is, by computing, a list of the rows that pass a test, and so its entries are rows. That a list holds
--- rows, and that it rises, can also be computed of the list itself. Assumes nothing.
-use Prim.Native.Nat.{ℕ, zero, suc, _≤_, _<_}
-use mathlib.Core.Bool.{Bool, true, _&&_}
+-- That a list holds numbers of rows, and that it rises, is computed of the list itself. Assumes nothing.
+use Prim.Native.Nat.{ℕ, zero, suc, _<_}
+use mathlib.Core.Bool.{true, _&&_}
 use mathlib.Core.Path.{_≡_}
 use mathlib.Core.List.{List, [], _∷_}
 use native.Mathlib.Omega.{arith}
 use borrow.Author.Tests.{leb-true, ltb-true}
 use lib.Dec.{leb, ltb}
 use lib.ListN.{length, getD}
-use Rattle.lane.specs.Rows.{rowsWhere, Rising}
-use Rattle.lane.proofs.Rows.{row-passes}
+use Rattle.lane.specs.Rows.{Rising}
 use Rattle.ground.proofs.Bools.{both}
 use Rattle.block.specs.Inner.{Listed, listed?, above?, rising?}
-
-pub rows-listed : (test : ℕ → Bool) (n m : ℕ) → n ≤ m → Listed m (rowsWhere test n)
-rows-listed test n m h k l = let r = row-passes test n k l in (r .0, omega (arith, r .1))
 
 pub listed : (n : ℕ) (l : List ℕ) → listed? n l ≡ true → Listed n l
 unfolding listed?

@@ -7,7 +7,7 @@ use Rattle.block.specs.declared.Verdict.{Verdict}
 use Rattle.block.specs.declared.Verdict.the-variants.{Clean, Mended, Lost}
 use Rattle.shape.specs.declared.Shape.{Shape}
 use Rattle.block.specs.Block.{lanesLost, bitsChanged, mendedBlock}
-use Rattle.block.specs.Verdict.{verdictNumber, verdictCount, Said, saidOf, saidBy, toSay, unsaid, verdict, verdictOf, Decides}
+use Rattle.block.specs.Verdict.{verdictNumber, verdictCount, Said, saidOf, saidBy, toSay, unsaid, verdict, verdictOf}
 
 pub verdict-some : (v : Verdict) → verdictNumber v ≡ 0 → ⊥
 verdict-some Clean e = omega arith
@@ -46,6 +46,3 @@ module _ (shape : Shape) (block : List ℕ) where
 
   pub says-verdict : {v : Verdict} → saidOf v ≡ toSay shape block → v ≡ verdictOf shape block
   says-verdict {v} e = said-told v (verdictOf shape block) (e ∙ sym verdict-says)
-
-  pub decides : {v : Verdict} {after : List ℕ} → (v ≡ verdictOf shape block) × (after ≡ mendedBlock shape block) → Decides shape block v after
-  decides e = record { says = ap saidOf (e .0) ∙ verdict-says; leaves = e .1 }

@@ -1,37 +1,24 @@
--- Lists by their entries, numbers by their bits, and the exclusive or over a list of rows. Assumes nothing.
+-- Rows by their places, and numbers by their bits. Assumes nothing.
 use Prim.Native.Nat.{ℕ, zero, suc, _+_, _-_, _/_, _%_, _^_, _≤_, _<_}
 use mathlib.Core.Bool.{Bool, true, false, cond}
 use mathlib.Core.Path.{_≡_, sym, ap, ap₂, _∙_}
-use mathlib.Core.List.{List, [], _∷_, _++_}
+use mathlib.Core.List.{List}
 use mathlib.Core.Logic.{⊎-elim}
 use native.Mathlib.Nat.{pow-suc, eq-or-lt-of-le, le-of-suc-le-suc, le-refl, add-zero, one-mul}
 use native.Mathlib.Omega.{arith}
-use lib.Bits.{bitXor, bitAnd, xor-zero-r, xor-disjoint, and-comm, and-shifted}
+use lib.Bits.{bitXor, bitAnd, xor-disjoint, and-comm, and-shifted}
 use lib.Dec.{eqb}
-use lib.ListN.{length, getD, take}
-use lib.Seq.{take-suc}
+use lib.ListN.{getD}
 use borrow.Author.Tests.{eq-eqb, ne-eqb}
 use Rattle.lane.specs.Bit.{set?, bit, _⊕_, pick}
-use Rattle.lane.proofs.Bits.{bit-xor, bit-high, bit-shift, bit-ext-below, xor-assoc, ⊕-zero}
+use Rattle.lane.proofs.Bits.{bit-xor, bit-high, bit-shift, bit-ext-below, ⊕-zero}
 use Rattle.lane.proofs.Rows.{power-digit, power-apart}
 use Rattle.block.specs.Words.{row, number}
-use Rattle.block.specs.Inner.{xorOver}
 
 -- where the word of a row stands
 pub row-at : (p : ℕ) (block : List ℕ) → 1 ≤ p → getD block (p - 1) 0 ≡ row p block
 row-at zero block h = absurd (omega arith)
 row-at (suc j) block h = let e : suc j - 1 ≡ j = omega arith in ap (λ (k : ℕ). getD block k 0) e
-
--- ---- the exclusive or over a list of rows
-
-pub xor-snoc : (list : List ℕ) (p : ℕ) (block : List ℕ) → xorOver (list ++ p ∷ []) block ≡ bitXor (xorOver list block) (row p block)
-unfolding xorOver
-xor-snoc [] p block = xor-zero-r (row p block)
-xor-snoc (q ∷ list) p block = ap (bitXor (row q block)) (xor-snoc list p block) ∙ sym (xor-assoc (row q block) (xorOver list block) (row p block))
-
-pub xor-more : (list : List ℕ) (k : ℕ) (block : List ℕ) → k < length list
-    → bitXor (xorOver (take k list) block) (row (getD list k 0) block) ≡ xorOver (take (suc k) list) block
-xor-more list k block h = sym (ap (λ (l : List ℕ). xorOver l block) (take-suc list k 0 h) ∙ xor-snoc (take k list) (getD list k 0) block)
 
 -- ---- the bits of a number that is given by its bits
 

@@ -59,12 +59,9 @@ dataOf shape block = listOf (words shape) (λ k. row (getD (dataRowsOf shape) k 
 unfoldable pub dataInto : Shape → List ℕ → List ℕ → List ℕ
 dataInto shape block buffer = stores buffer (λ k. k) (λ k. row (getD (dataRowsOf shape) k 0) block) (words shape)
 
--- the promises of encode and data_into
+-- the promise of encode
 abbrev pub Encodes : Shape → List ℕ → List ℕ → Type 0
 Encodes shape list block = block ≡ validBlock shape list
-
-abbrev pub CopiesData : Shape → (block buffer after : List ℕ) → Type 0
-CopiesData shape block buffer after = after ≡ dataInto shape block buffer
 
 -- ---- mending
 

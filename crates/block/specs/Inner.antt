@@ -1,19 +1,19 @@
 -- What the code computes on its way, 32 lanes at once: a word for each digit of the lanes' sums. Assumes nothing.
-use Prim.Native.Nat.{ℕ, zero, suc, _+_, _-_, _^_, _≤_, _<_}
-use mathlib.Core.Bool.{Bool, true, not, cond, _&&_}
+use Prim.Native.Nat.{ℕ, zero, suc, _+_, _*_, _-_, _^_, _≤_, _<_}
+use mathlib.Core.Bool.{Bool, true, cond, _&&_}
 use mathlib.Core.Path.{_≡_}
 use mathlib.Core.List.{List, [], _∷_}
-use lib.ListN.{length, getD, drop}
+use lib.ListN.{length, getD, set}
 use lib.Bits.{bitXor, bitAnd, bitOr}
 use lib.Dec.{eqb, leb, ltb}
-use Rattle.lane.specs.Bit.{bit}
-use Rattle.lane.specs.Rows.{rowsWhere, covered, allRows}
+use Rattle.lane.specs.Bit.{bit, pick}
 use Rattle.shape.specs.declared.Shape.{Shape}
-use Rattle.block.specs.declared.sums.Sums.{Sums}
-use Rattle.shape.specs.Shape.{before, rows, mostRows}
+use Rattle.shape.specs.declared.Shape.the-variants.{One, Two}
 use Rattle.ground.specs.Lists.{listOf}
+use Rattle.ground.specs.Choice.{ifZero}
 use Rattle.ground.specs.Stores.{stores}
-use Rattle.block.specs.Words.{row, number, word}
+use Rattle.block.specs.Words.{word}
+use Rattle.block.specs.Sums.{sumIn}
 
 -- every entry of a list is the number of one of n rows
 abbrev pub Listed : ℕ → List ℕ → Type 0
@@ -32,45 +32,79 @@ unfoldable pub rising? : List ℕ → Bool
 rising? [] = true
 rising? (p ∷ l) = above? p l && rising? l
 
--- the exclusive or of the words of the listed rows
-unfoldable pub xorOver : List ℕ → List ℕ → ℕ
-xorOver [] block = zero
-xorOver (p ∷ l) block = bitXor (row p block) (xorOver l block)
+-- the exclusive or of the words of those of the rows 1 to n that pass a test
+unfoldable pub xorRows : (ℕ → Bool) → ℕ → (ℕ → ℕ) → ℕ
+xorRows test zero rowWord = zero
+xorRows test (suc n) rowWord = bitXor (xorRows test n rowWord) (pick (test (suc n)) (rowWord (suc n)))
 
 -- the lanes with a one in any of the first k digits
 unfoldable pub anyOf : ℕ → List ℕ → ℕ
 anyOf zero digits = zero
 anyOf (suc k) digits = bitOr (anyOf k digits) (getD digits k 0)
 
--- the even rows, those that check row 1 does not cover
-abbrev pub evenRows : ℕ → List ℕ
-evenRows m = rowsWhere (λ p. not (bit 0 p)) (suc m)
+-- what is answered of eight words: the lanes with a one in any; they are kept where there is one
+abbrev pub Kept : (sums : List ℕ) (found : ℕ) (lent after : List ℕ) → Type 0
+Kept sums found lent after = (found ≡ anyOf 8 sums) × (after ≡ ifZero found lent sums)
 
--- digit k of every lane's sum, and last the exclusive or of the even rows
-abbrev pub sumWords : Shape → List ℕ → List ℕ
-sumWords shape block =
-    let digit : ℕ → ℕ = λ k. xorOver (covered k (before shape)) block in
-    digit 0 ∷ digit 1 ∷ digit 2 ∷ digit 3 ∷ digit 4 ∷ digit 5 ∷ digit 6 ∷ xorOver (evenRows (before shape)) block ∷ []
+-- ---- the rows in groups of four
 
--- digit k of every lane's sum, every lane's parity, and the lanes in which any of them is set
-abbrev pub sumsOf : Shape → List ℕ → Sums
-sumsOf shape block =
+-- digits 3 to 6 of the sums: shape 1 has no row with one of the last three
+abbrev pub ofShape : Shape → (d3 d4 d5 d6 : ℕ) → List ℕ
+ofShape One d3 d4 d5 d6 = d3 ∷ 0 ∷ 0 ∷ 0 ∷ []
+ofShape Two d3 d4 d5 d6 = d3 ∷ d4 ∷ d5 ∷ d6 ∷ []
+
+-- these, from the words of rows 1 to 4 q + 3 for each q
+abbrev pub highDigits : Shape → List ℕ → List ℕ
+highDigits shape upto =
+    let to : ℕ → ℕ = λ q. getD upto q 0 in
+    let d5 : ℕ = bitXor (to 7) (to 15) in
+    let d4 : ℕ = bitXor (bitXor (to 3) (to 11)) d5 in
+    let d3 : ℕ = bitXor (bitXor (bitXor (bitXor (to 1) (to 5)) (to 9)) (to 13)) d4 in
+    ofShape shape d3 d4 d5 (bitXor (to 15) (to 17))
+
+-- what a column of 17 words gives: digits 2 to 6 of the sums, and the whole
+pub record Column : Type 0 where
+  pub d2 : ℕ
+  pub d3 : ℕ
+  pub d4 : ℕ
+  pub d5 : ℕ
+  pub d6 : ℕ
+  pub all : ℕ
+
+abbrev pub columnOf : (ℕ → ℕ) → Column
+columnOf x =
+    let p2 : ℕ = bitXor (x 2) (x 3) in
+    let p4 : ℕ = bitXor (x 4) (x 5) in
+    let p6 : ℕ = bitXor (x 6) (x 7) in
+    let p8 : ℕ = bitXor (x 8) (x 9) in
+    let p10 : ℕ = bitXor (x 10) (x 11) in
+    let p12 : ℕ = bitXor (x 12) (x 13) in
+    let p14 : ℕ = bitXor (x 14) (x 15) in
+    let p16 : ℕ = bitXor (x 16) (x 17) in
+    let q4 : ℕ = bitXor p4 p6 in
+    let q12 : ℕ = bitXor p12 p14 in
+    let q8 : ℕ = bitXor (bitXor p8 p10) q12 in
+    let odd7 : ℕ = bitXor (bitXor (bitXor (x 1) (x 3)) (x 5)) (x 7) in
     record {
-      digits = listOf 7 (λ k. xorOver (covered k (before shape)) block);
-      parity = xorOver (allRows (before shape)) block;
-      some = anyOf 8 (sumWords shape block);
+      d2 = bitXor (bitXor (bitXor (bitXor (bitXor odd7 (x 9)) (x 11)) (x 13)) (x 15)) (x 17);
+      d3 = bitXor (bitXor (bitXor p2 p6) p10) p14;
+      d4 = bitXor q4 q12;
+      d5 = q8;
+      d6 = p16;
+      all = bitXor (bitXor (bitXor (bitXor (x 1) p2) q4) q8) p16;
     }
 
--- a gathered block with its digits and parities, one of which is set
-abbrev pub InDoubt : Shape → List ℕ → List ℕ → ℕ → Type 0
-InDoubt shape block digits parity =
-    (length block ≡ mostRows) × (digits ≡ sumsOf shape block .digits) × (parity ≡ sumsOf shape block .parity) × (sumsOf shape block .some ≡ 0 → ⊥)
+-- the word of column c in group q, of rows that are neighbours
+abbrev pub inColumn : List ℕ → (at c q : ℕ) → ℕ
+inColumn words at c q = getD words (at + (4 * q - 1) + c) 0
 
--- what is found of the block at `at`: its sums, and the lanes in which one is set; 1 where the block is not all there
-abbrev pub Looked : Shape → ℕ → List ℕ → ℕ → List ℕ → Type 0
-Looked shape at words found sums =
-    (at + rows shape ≤ length words → (sums ≡ sumWords shape (drop at words)) × (found ≡ anyOf 8 (sumWords shape (drop at words))))
-    × ((at + rows shape ≤ length words → ⊥) → found ≡ 1)
+-- digits 2 to 5 of n columns in a table, four words a column
+unfoldable pub tabled : List ℕ → (ℕ → Column) → ℕ → List ℕ
+tabled table f zero = table
+tabled table f (suc c) =
+    set (set (set (set (tabled table f c) (4 * c) (f c .d2)) (4 * c + 1) (f c .d3)) (4 * c + 2) (f c .d4)) (4 * c + 3) (f c .d5)
+
+-- ---- the decision
 
 -- the lanes whose first k digits make a number above those of top
 unfoldable pub aboveOf : ℕ → ℕ → List ℕ → ℕ
@@ -83,10 +117,6 @@ abbrev pub lostLanes : ℕ → ℕ → List ℕ → ℕ
 lostLanes top parity digits =
     bitOr (bitAnd (anyOf 7 digits) ((2 ^ 32 - 1) - parity)) (bitAnd parity (aboveOf top 7 digits))
 
--- the sum of lane i
-abbrev pub sumAt : List ℕ → ℕ → ℕ
-sumAt digits i = number 7 (λ k. bit i (getD digits k 0))
-
 -- the row that an odd lane's sum names
 abbrev pub rowNamed : ℕ → ℕ → ℕ
 rowNamed last sum = cond (eqb sum 0) last sum
@@ -94,7 +124,7 @@ rowNamed last sum = cond (eqb sum 0) last sum
 -- the block with the row that its sum names flipped in each of the given lanes
 unfoldable pub flippedIn : ℕ → List ℕ → (ℕ → Bool) → List ℕ → List ℕ
 flippedIn last digits lanes block =
-    listOf (length block) (λ j. bitXor (getD block j 0) (word (λ i. lanes i && eqb (suc j) (rowNamed last (sumAt digits i)))))
+    listOf (length block) (λ j. bitXor (getD block j 0) (word (λ i. lanes i && eqb (suc j) (rowNamed last (sumIn digits i)))))
 
 -- the exclusive or of the first k digits' words
 unfoldable pub xorAll : ℕ → List ℕ → ℕ
@@ -104,7 +134,3 @@ xorAll (suc k) digits = bitXor (xorAll k digits) (getD digits k 0)
 -- the block with the digits' words in check rows 1, 2, 4, .. 64
 unfoldable pub withChecks : List ℕ → List ℕ → List ℕ
 withChecks digits block = stores block (λ k. 2 ^ k - 1) (λ k. getD digits k 0) 7
-
--- a buffer with the words of the listed rows copied to it
-unfoldable pub copiedInto : List ℕ → List ℕ → List ℕ → List ℕ
-copiedInto list block buffer = stores buffer (λ k. k) (λ k. row (getD list k 0) block) (length list)

@@ -1,5 +1,6 @@
 pub mod Words
 pub mod Block
 pub mod Verdict
+pub mod Sums
 pub mod Inner
 pub mod DataTables

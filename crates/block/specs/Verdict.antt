@@ -1,15 +1,10 @@
 -- Clean 0: block valid, nothing changed. Mended m: no lane lost, m bits changed. Lost m: m lanes are lost.
 -- The verdicts are numbered 1 clean, 2 mended, 3 lost. Assumes nothing.
-use Prim.Native.Nat.{ℕ, zero, suc, _+_}
-use mathlib.Core.Bool.{Bool, _&&_}
+use Prim.Native.Nat.{ℕ, zero, suc}
 use mathlib.Core.List.{List, [], _∷_}
-use mathlib.Core.Path.{_≡_}
-use lib.Dec.{leb, eqb}
-use lib.ListN.{length, drop}
 use Rattle.shape.specs.declared.Shape.{Shape}
 use Rattle.block.specs.declared.Verdict.{Verdict}
 use Rattle.block.specs.declared.Verdict.the-variants.{Clean, Mended, Lost}
-use Rattle.shape.specs.Shape.{rows}
 use Rattle.block.specs.Block.{lanesLost, bitsChanged, mendedBlock}
 
 abbrev pub verdictNumber : Verdict → ℕ
@@ -54,19 +49,6 @@ verdictWords found = saidWords (saidOf found)
 
 abbrev pub noVerdict : List ℕ
 noVerdict = saidWords unsaid
-
--- the promise of decide: what it says, and the block that it leaves
-pub record Decides (shape : Shape) (block : List ℕ) (found : Verdict) (after : List ℕ) : Type 0 where
-  pub says : saidOf found ≡ toSay shape block
-  pub leaves : after ≡ mendedBlock shape block
-
--- do the words from `at` on begin with a block that is all there and of which 1, clean, is to be said
-unfoldable pub validFrom : Shape → ℕ → List ℕ → Bool
-validFrom shape at words = leb (at + rows shape) (length words) && eqb (toSay shape (drop at words) .verdict) 1
-
--- the promise of valid
-abbrev pub TellsValid : Shape → List ℕ → ℕ → Bool → Type 0
-TellsValid shape words at answer = answer ≡ validFrom shape at words
 
 -- ---- the verdict itself, as callers use it
 

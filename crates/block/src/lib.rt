@@ -7,7 +7,8 @@ mod tables;
 pub use coding::data_into;
 pub use coding::encode;
 pub use mending::decide;
-pub use sums::valid;
+pub use sums::SUM_WORDS;
+pub use sums::look;
 
 pub enum Verdict {
     Clean,

@@ -2,42 +2,50 @@
 ghost use mathlib.Core.Path.{_≡_};
 ghost use mathlib.Core.Bool.{true};
 ghost use Prim.Native.Nat.{ℕ, _≤_, _<_};
+ghost use lib.ListN.{getD};
 ghost use Rattle.lane.specs.Bit.{bit};
 ghost use Rattle.shape.specs.Shape.{mostRows};
-ghost use Rattle.block.specs.Block.{mendedBlock};
-ghost use Rattle.block.specs.Verdict.{verdictOf, Decides};
-ghost use Rattle.block.specs.Inner.{anyOf, aboveOf, sumAt, rowNamed, flippedIn, InDoubt};
+ghost use Rattle.block.specs.Sums.{sumIn, Decides};
+ghost use Rattle.block.specs.Inner.{anyOf, aboveOf, rowNamed, flippedIn};
 use super::Verdict;
-use super::sums::lane_sums;
+use super::sums::DIGITS;
+use super::sums::SUM_WORDS;
 use shape::MOST_ROWS;
 use shape::Shape;
 use shape::rows_before;
 
 // The lanes whose sum is not 0.
-fn any(digits: &[u32; 7]) -> u32
-    ensures { λ r. ⌜ r ≡ anyOf 7 (now (digits .entry)) ⌝ }
+fn any(sums: &[u32; SUM_WORDS]) -> u32
+    ensures { λ r. ⌜ r ≡ anyOf 7 (now (sums .entry)) ⌝ }
 {
     let mut lanes: u32 = 0;
     let mut k = 0;
-    while k < 7 {
-        lanes |= digits[k];
+    while k < DIGITS {
+        lanes |= sums[k];
         k += 1;
     }
     lanes
 }
 
+// The lanes with an odd count of ones.
+fn odd(sums: &[u32; SUM_WORDS]) -> u32
+    ensures { λ r. ⌜ r ≡ getD (now (sums .entry)) 7 0 ⌝ }
+{
+    sums[DIGITS]
+}
+
 // The lanes whose sum is above `top`.
-fn above(digits: &[u32; 7], top: usize) -> u32
-    ensures { λ r. ⌜ r ≡ aboveOf top 7 (now (digits .entry)) ⌝ }
+fn above(sums: &[u32; SUM_WORDS], top: usize) -> u32
+    ensures { λ r. ⌜ r ≡ aboveOf top 7 (now (sums .entry)) ⌝ }
 {
     let mut lanes: u32 = 0;
     let mut rest = top;
     let mut k = 0;
-    while k < 7 {
+    while k < DIGITS {
         if rest % 2 == 1 {
-            lanes &= digits[k];
+            lanes &= sums[k];
         } else {
-            lanes |= digits[k];
+            lanes |= sums[k];
         }
         rest /= 2;
         k += 1;
@@ -46,15 +54,15 @@ fn above(digits: &[u32; 7], top: usize) -> u32
 }
 
 // The row that the sum of lane `i` names: the last where the sum is 0.
-fn row_named(digits: &[u32; 7], i: u32, last: usize) -> usize
+fn row_named(sums: &[u32; SUM_WORDS], i: u32, last: usize) -> usize
     requires { ⌜ i < 32 ⌝ }
-    ensures { λ r. ⌜ r ≡ rowNamed last (sumAt (now (digits .entry)) i) ⌝ }
+    ensures { λ r. ⌜ r ≡ rowNamed last (sumIn (now (sums .entry)) i) ⌝ }
 {
     let mut sum: usize = 0;
     let mut weight: usize = 1;
     let mut k = 0;
-    while k < 7 {
-        if (digits[k] >> i) % 2 == 1 {
+    while k < DIGITS {
+        if (sums[k] >> i) % 2 == 1 {
             sum += weight;
         }
         weight *= 2;
@@ -64,47 +72,33 @@ fn row_named(digits: &[u32; 7], i: u32, last: usize) -> usize
 }
 
 // Flips, in every odd lane, the row that its sum names.
-fn flip_named(block: &mut [u32; MOST_ROWS], digits: &[u32; 7], parity: u32, last: usize)
-    requires { ⌜ (1 ≤ last) × (last ≤ mostRows) × ((i : ℕ) → i < 32 → bit i parity ≡ true → sumAt (now digits) i < last) ⌝ }
-    ensures { λ r. ⌜ now (block .exit) ≡ flippedIn last (now (digits .entry)) (λ i. bit i parity) (now (block .entry)) ⌝ }
+fn flip_named(block: &mut [u32; MOST_ROWS], sums: &[u32; SUM_WORDS], parity: u32, last: usize)
+    requires { ⌜ (1 ≤ last) × (last ≤ mostRows) × ((i : ℕ) → i < 32 → bit i parity ≡ true → sumIn (now sums) i < last) ⌝ }
+    ensures { λ r. ⌜ now (block .exit) ≡ flippedIn last (now (sums .entry)) (λ i. bit i parity) (now (block .entry)) ⌝ }
 {
     let mut left = parity;
     while left != 0 {
         let i = u32::trailing_zeros(left);
-        let p = row_named(digits, i, last);
+        let p = row_named(sums, i, last);
         let lane = 1 << i;
         block[p - 1] ^= lane;
         left ^= lane;
     }
 }
 
-// A block in doubt: lost where a lane is, and else mended.
-fn in_doubt(shape: Shape, block: &mut [u32; MOST_ROWS], digits: &[u32; 7], parity: u32) -> Verdict
-    requires { ⌜ InDoubt shape (now block) (now digits) parity ⌝ }
-    ensures verdict { λ r. ⌜ r ≡ verdictOf shape (now (block .entry)) ⌝ }
-    ensures after { λ r. ⌜ now (block .exit) ≡ mendedBlock shape (now (block .entry)) ⌝ }
+// Decides a gathered block by its sums, and mends it where no lane is lost.
+pub fn decide(shape: Shape, block: &mut [u32; MOST_ROWS], sums: &[u32; SUM_WORDS]) -> Verdict
+    ensures { λ r. ⌜ Decides shape (now (block .entry)) (now (sums .entry)) r (now (block .exit)) ⌝ }
 {
     let top = rows_before(shape);
-    let lost = any(digits) & !parity | parity & above(digits, top);
+    let parity = odd(sums);
+    let lost = any(sums) & !parity | parity & above(sums, top);
     if lost != 0 {
         return Verdict::Lost(u32::count_ones(lost));
     }
-    flip_named(block, digits, parity, top + 1);
-    Verdict::Mended(u32::count_ones(parity))
-}
-
-// Decides a gathered block, and mends it where no lane is lost. Doubt is rare: a call for each shape keeps it out of line.
-pub fn decide(shape: Shape, block: &mut [u32; MOST_ROWS]) -> Verdict
-    ensures { λ r. ⌜ Decides shape (now (block .entry)) r (now (block .exit)) ⌝ }
-{
-    let sums = lane_sums(shape, block);
-    if sums.some == 0 {
+    if parity == 0 {
         return Verdict::Clean;
     }
-    let digits = sums.digits;
-    let parity = sums.parity;
-    match shape {
-        Shape::One => in_doubt(Shape::One, block, &digits, parity),
-        Shape::Two => in_doubt(Shape::Two, block, &digits, parity),
-    }
+    flip_named(block, sums, parity, top + 1);
+    Verdict::Mended(u32::count_ones(parity))
 }

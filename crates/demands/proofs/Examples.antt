@@ -4,8 +4,8 @@ use mathlib.Core.Bool.{true}
 use mathlib.Core.Path.{_≡_, refl, sym, ap, ap₂, _∙_}
 use mathlib.Core.List.{List, _∷_, _++_, map}
 use native.Mathlib.Omega.{arith}
-use lib.Bits.{bitXor, bitOr}
-use lib.ListN.{length, set}
+use lib.Bits.{bitXor}
+use lib.ListN.{length, getD, set}
 use Rattle.ground.specs.Totals.{total}
 use Rattle.ground.specs.Stores.{stores}
 use Rattle.ground.specs.Lists.{listOf}
@@ -18,17 +18,17 @@ use Rattle.shape.specs.Shape.{before}
 use Rattle.block.specs.Words.{number}
 use Rattle.block.specs.Block.{dataBlock, validBlock, mendedBlock}
 use Rattle.block.specs.Verdict.{Said, toSay, saidWords, verdictOf, verdictWords}
-use Rattle.block.specs.Inner.{xorOver, sumsOf, anyOf, aboveOf, lostLanes, flippedIn, xorAll, withChecks}
+use Rattle.block.specs.Inner.{xorRows, anyOf, aboveOf, lostLanes, flippedIn, xorAll, withChecks}
 use Rattle.block.proofs.Verdicts.{verdict-says}
-use Rattle.block.proofs.ByWords.{fit?, bits, written, lost-by-words, mended-by-words}
+use Rattle.block.proofs.ByWords.{fit?, bits, rowSums, written, lost-by-words, mended-by-words}
 use Rattle.layout.specs.Layout.{shapeNumbered}
 use Rattle.demands.specs.Examples.{Example, examples, upTo}
 
 module _ (shape : Shape) where
   -- a written block, by the words of its data
   wrote : (list block : List ℕ) → fit? list ≡ true
-      → set (withChecks (sumsOf shape (dataBlock shape list) .digits) (dataBlock shape list)) (before shape)
-      (bitXor (sumsOf shape (dataBlock shape list) .parity) (xorAll 7 (sumsOf shape (dataBlock shape list) .digits)))
+      → set (withChecks (rowSums shape (dataBlock shape list)) (dataBlock shape list)) (before shape)
+      (bitXor (getD (rowSums shape (dataBlock shape list)) 7 0) (xorAll 7 (rowSums shape (dataBlock shape list))))
       ≡ block
       → validBlock shape list ≡ block
   wrote list block fit e = written shape list fit ∙ e
@@ -42,7 +42,7 @@ module _ (shape : Shape) where
 
   module _ (found : List ℕ) (fit : fit? found ≡ true) (long : length found ≡ 72) where
     abbrev lostWord : ℕ
-    lostWord = lostLanes (before shape) (sumsOf shape found .parity) (sumsOf shape found .digits)
+    lostWord = lostLanes (before shape) (getD (rowSums shape found) 7 0) (rowSums shape found)
 
     -- a lost block, by the word of its lost lanes
     was-lost : (w n : ℕ) → lostWord ≡ suc w → bits lostWord ≡ n
@@ -51,15 +51,15 @@ module _ (shape : Shape) where
         said found found _ (lost-by-words shape found fit long (λ z. omega (arith, e))) ∙ ap (λ (k : ℕ). verdictWords (Lost k) ++ found) c
 
     -- a mended block, by the word of its odd lanes
-    was-mended : (n w : ℕ) (after : List ℕ) → lostWord ≡ 0 → bitOr (anyOf 7 (sumsOf shape found .digits)) (sumsOf shape found .parity) ≡ suc w
-        → bits (sumsOf shape found .parity) ≡ n
-        → flippedIn (before shape + 1) (sumsOf shape found .digits) (λ i. bit i (sumsOf shape found .parity)) found ≡ after
+    was-mended : (n w : ℕ) (after : List ℕ) → lostWord ≡ 0 → getD (rowSums shape found) 7 0 ≡ suc w
+        → bits (getD (rowSums shape found) 7 0) ≡ n
+        → flippedIn (before shape + 1) (rowSums shape found) (λ i. bit i (getD (rowSums shape found) 7 0)) found ≡ after
         → _≡_ {A = List ℕ} (saidWords (toSay shape found) ++ mendedBlock shape found) (verdictWords (Mended n) ++ after)
     was-mended n w after z s c e =
         said found _ _ (mended-by-words shape found fit long z (λ q. omega (arith, s))) ∙ ap₂ (λ (k : ℕ) (l : List ℕ). verdictWords (Mended k) ++ l) c e
 
 pub all-hold : map (λ (e : Example). e .gives) examples ≡ map (λ (e : Example). e .must) examples
-unfolding examples upTo dataBlock stores listOf number total xorOver anyOf aboveOf flippedIn xorAll withChecks power? rowsWhere bit fit? shapeNumbered
+unfolding examples upTo dataBlock stores listOf number total xorRows anyOf aboveOf flippedIn xorAll withChecks power? rowsWhere bit fit? shapeNumbered
 all-hold =
     ap₂ _∷_ (wrote _ _ _ refl refl)
     (ap₂ _∷_ (wrote _ _ _ refl refl)

@@ -1,16 +1,20 @@
 -- One result: two outcomes that satisfy the promise of a public function are equal, answer and every lent word.
 -- One theorem for each public function, crate by crate, of the name that the function's contract cites. Assumes nothing.
-use Prim.Native.Nat.{ℕ}
-use mathlib.Core.Bool.{Bool}
-use mathlib.Core.Path.{_≡_}
+use Prim.Native.Nat.{ℕ, _+_, _*_, _<_}
+use mathlib.Core.Path.{_≡_, sym, ap, _∙_}
 use mathlib.Core.List.{List}
+use mathlib.Core.Logic.{⊎-elim}
+use native.Mathlib.Omega.{arith}
+use lib.ListN.{length}
+use Rattle.lane.proofs.Rows.{split-below}
+use Rattle.ground.specs.Choice.{ifZero}
 use Rattle.ground.specs.Least.{IsLeast}
 use Rattle.ground.proofs.Same.{same}
 use Rattle.shape.specs.declared.Shape.{Shape}
-use Rattle.shape.specs.Shape.{CountsBefore, CountsRows, CountsWords}
+use Rattle.shape.specs.Shape.{before, CountsBefore, CountsRows, CountsWords}
 use Rattle.block.specs.declared.Verdict.{Verdict}
-use Rattle.block.specs.Block.{Encodes, CopiesData}
-use Rattle.block.specs.Verdict.{Decides, TellsValid}
+use Rattle.block.specs.Block.{Encodes}
+use Rattle.block.specs.Sums.{lying, sumsOf, Looks, Decides, CopiesData}
 use Rattle.block.proofs.Verdicts.{said-told}
 use Rattle.layout.specs.declared.Layout.{Layout}
 use Rattle.layout.specs.declared.Site.{Site}
@@ -59,14 +63,28 @@ one-words shape p q = same p q
 pub one-encode : (shape : Shape) (list : List ℕ) {a b : List ℕ} → Encodes shape list a → Encodes shape list b → a ≡ b
 one-encode shape list p q = same p q
 
-pub one-decide : (shape : Shape) (block : List ℕ) {v w : Verdict} {a b : List ℕ} → Decides shape block v a → Decides shape block w b → (v ≡ w) × (a ≡ b)
-one-decide shape block {v} {w} p q = (said-told v w (same (p .says) (q .says)), same (p .leaves) (q .leaves))
+pub one-look : (shape : Shape) (list : List ℕ) (at s : ℕ) (lent : List ℕ) {m n : ℕ} {a b : List ℕ} → Looks shape list at s lent m a
+    → Looks shape list at s lent n b → (m ≡ n) × (a ≡ b)
+one-look shape list at s lent p q =
+    ⊎-elim
+    (λ h.
+    let found = same (p .there h .0) (q .there h .0) in
+    (found, p .there h .1 ∙ ap (λ (k : ℕ). ifZero k lent (sumsOf shape (lying shape list at s))) found ∙ sym (q .there h .1)))
+    (λ h.
+    let no : at + before shape * s < length list → ⊥ = λ l. omega arith in
+    (same (p .missing no .0) (q .missing no .0), same (p .missing no .1) (q .missing no .1)))
+    (split-below (at + before shape * s) (length list))
 
-pub one-valid : (shape : Shape) (list : List ℕ) (at : ℕ) {a b : Bool} → TellsValid shape list at a → TellsValid shape list at b → a ≡ b
-one-valid shape list at p q = same p q
+pub one-decide : (shape : Shape) (block sums : List ℕ) {v w : Verdict} {a b : List ℕ} → Decides shape block sums v a → Decides shape block sums w b
+    → (v ≡ w) × (a ≡ b)
+one-decide shape block sums {v} {w} p q = (said-told v w (same (p .says) (q .says)), same (p .leaves) (q .leaves))
 
-pub one-data-into : (shape : Shape) (block buffer : List ℕ) {a b : List ℕ} → CopiesData shape block buffer a → CopiesData shape block buffer b → a ≡ b
-one-data-into shape block buffer p q = same p q
+pub one-data-into : (shape : Shape) (list : List ℕ) (at s : ℕ) (buffer : List ℕ) {a b : List ℕ} → CopiesData shape list at s buffer a
+    → CopiesData shape list at s buffer b → a ≡ b
+one-data-into shape list at s buffer p q =
+    ⊎-elim (λ h. same (p .there h) (q .there h))
+    (λ h. let no : at + before shape * s < length list → ⊥ = λ l. omega arith in same (p .missing no) (q .missing no))
+    (split-below (at + before shape * s) (length list))
 
 -- ---- layout
 

@@ -9,7 +9,7 @@ use Rattle.lane.specs.Bit.{bit, _⊕_, pick}
 use Rattle.lane.specs.Lane.{Lane, sum, count, odd, Valid, diff}
 use Rattle.lane.proofs.Bits.{xor-swap, bit-add, ⊕-swap}
 
-pick-xor : (a b : Bool) (n : ℕ) → pick (a ⊕ b) n ≡ bitXor (pick a n) (pick b n)
+pub pick-xor : (a b : Bool) (n : ℕ) → pick (a ⊕ b) n ≡ bitXor (pick a n) (pick b n)
 pick-xor false b n = refl
 pick-xor true false n = sym (xor-zero-r n)
 pick-xor true true n = sym (xor-self n)

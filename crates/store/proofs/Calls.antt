@@ -32,8 +32,8 @@ use Rattle.store.proofs.Answers.{answered-refused}
 use Rattle.store.proofs.Promises.{writes, reads, visits, visits-answer, visits-accepted}
 use Rattle.store.proofs.Image.{gathered-stride, placed-stride}
 use Rattle.store.proofs.Located.{list-fits}
-use Rattle.store.proofs.Strides.{left}
-use Rattle.block.proofs.Told.{NotLost, lost-some, not-lost}
+use Rattle.store.proofs.Strides.{left, read-long}
+use Rattle.block.proofs.Told.{NotLost, lost-some, not-lost, not-mended}
 
 -- a buffer of the exact length holds the data words alone
 data-fills : (shape : Shape) (block buffer : List ℕ) → length buffer ≡ words shape → dataInto shape block buffer ≡ dataOf shape block
@@ -115,6 +115,14 @@ module _ (image : List ℕ) {layout : Layout} {block : ℕ} {shape : Shape} {at 
           reads _ _ _ _ read-answer
           (rw (list-fits (length image) layout block site (length buffer) fits, not-lost (shapeOf layout) (gathered layout block image) v judged keys)
           (a ∙ data-fills shape mended buffer fits ∙ ap₂ dataOf (site .same-shape) (mends mended e)))
+
+  -- the data of a valid block are read where they lie
+  pub read-clean : Clean ≡ verdictOf shape (strideRead image at (layout .s) blank (rows shape)) → (buffer after : List ℕ) → length buffer ≡ words shape
+      → after ≡ dataInto shape (strideRead image at (layout .s) blank (rows shape)) buffer
+      → Reads image layout block buffer (Found Clean) image after
+  read-clean says buffer after fits e =
+      read-data _ refl Clean says buffer fits (hit (0 ∷ 1 ∷ []) 0 tt) _ after
+      (sym (not-mended shape (strideRead image at (layout .s) blank (rows shape)) Clean says (read-long image shape at (layout .s)) (hit (0 ∷ 2 ∷ []) 0 tt))) e
 
   -- a valid block is left where it lies
   pub visit-clean : Clean ≡ verdictOf shape (strideRead image at (layout .s) blank (rows shape)) → Visits image layout block (Found Clean) image

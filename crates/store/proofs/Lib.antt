@@ -2,6 +2,7 @@ pub mod Ladder
 pub mod Located
 pub mod Image
 pub mod Rows
+pub mod Turns
 pub mod Strides
 pub mod Cleared
 pub mod FreshBlocks

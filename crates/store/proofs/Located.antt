@@ -1,12 +1,16 @@
 -- What the site of a block tells of its rows, and of the list of data words or the buffer. Assumes nothing.
-use Prim.Native.Nat.{ℕ}
+use Prim.Native.Nat.{ℕ, _^_, _<_}
 use mathlib.Core.Path.{_≡_}
+use native.Mathlib.Nat.{mul-le-mul-right}
+use native.Mathlib.Omega.{arith}
 use borrow.Author.Tests.{eq-eqb, ne-eqb}
 use Rattle.shape.specs.declared.Shape.{Shape}
 use Rattle.shape.specs.Shape.{rows, words}
+use Rattle.shape.proofs.Sizes.{rows-fit}
 use Rattle.ground.proofs.Ladder.{then-first}
 use Rattle.layout.specs.declared.Layout.{Layout}
 use Rattle.layout.specs.declared.Site.the-variants.{Nowhere}
+use Rattle.layout.specs.Layout.{shapeOf, blocks}
 use Rattle.layout.specs.Site.{siteOf}
 use Rattle.layout.proofs.Ladder.{accepted}
 use Rattle.layout.proofs.Sites.{Located, refused, rows-inside}
@@ -27,6 +31,14 @@ module _ (len : ℕ) (layout : Layout) (block : ℕ) where
     inside =
         let ok = accepted layout len block (site .passed) in
         rw (site .same-shape) (ok .geometry .s-last, rows-inside len layout block site)
+
+    -- and its first index has 32 bits
+    pub first-small : at < 2 ^ 32
+    first-small =
+        let ok = accepted layout len block (site .passed) in
+        let few = mul-le-mul-right (blocks layout) (rows-fit (shapeOf layout)) in
+        let there = rows-inside len layout block site 0 (omega arith) in
+        omega (arith, ok .exact, ok .geometry .n-last, few, there)
 
     pub list-refused : (list : ℕ) → (list ≡ words shape → ⊥) → dataRefusal len layout block list ≡ 7
     unfolding dataRefusal

@@ -1,22 +1,24 @@
 -- Rows a stride apart: what is read is what lies there, and mended rows are written back as a visit leaves them. Assumes nothing.
 use Prim.Native.Nat.{ℕ, _+_, _*_, _≤_, _<_}
-use mathlib.Core.Bool.{true}
 use mathlib.Core.Path.{_≡_, sym, ap, _∙_}
 use mathlib.Core.List.{List}
 use native.Mathlib.Omega.{arith}
-use lib.ListN.{length, getD, drop, length-drop}
-use lib.Seq.{getD-drop}
+use lib.ListN.{length, getD}
 use Rattle.shape.specs.declared.Shape.{Shape}
 use Rattle.block.specs.declared.Verdict.{Verdict}
 use Rattle.block.specs.declared.Verdict.the-variants.{Clean}
-use Rattle.shape.specs.Shape.{rows}
+use Rattle.shape.specs.Shape.{before, rows}
 use Rattle.ground.proofs.Stores.{length-stores, stores-hit, stores-same}
-use Rattle.block.specs.Block.{blank, mendedBlock}
-use Rattle.block.specs.Verdict.{verdictOf, validFrom}
-use Rattle.shape.proofs.Sizes.{rows-fit}
-use Rattle.block.proofs.Looked.{valid-fits, valid-clean}
-use Rattle.store.specs.Inner.{strideRead, strideWrite}
-use Rattle.store.proofs.Rows.{same-verdict}
+use Rattle.ground.proofs.Choices.{refused-kept}
+use Rattle.ground.proofs.Lists.{getD-listOf}
+use Rattle.block.specs.Block.{blank, mendedBlock, SameRows, dataInto}
+use Rattle.block.specs.Verdict.{verdictOf}
+use Rattle.block.specs.Sums.{lying, sumsOf, Looks, CopiesData, Decides}
+use Rattle.shape.proofs.Sizes.{rows-fit, before-lt}
+use Rattle.block.proofs.Blocks.{length-mended}
+use Rattle.block.proofs.Decided.{decided, clean-verdict}
+use Rattle.block.proofs.Alike.{sums-alike, doubt-alike, data-alike}
+use Rattle.store.specs.Inner.{Inside, strideRead, strideWrite}
 use Rattle.block.proofs.Told.{NotMended, not-mended}
 
 module _ (image : List ℕ) (shape : Shape) (at s : ℕ) where
@@ -24,7 +26,7 @@ module _ (image : List ℕ) (shape : Shape) (at s : ℕ) where
   unfolding strideRead
   read-size = length-stores blank (λ k. k) (λ k. getD image (at + k * s) 0) (rows shape)
 
-  read-long : rows shape ≤ length (strideRead image at s blank (rows shape))
+  pub read-long : rows shape ≤ length (strideRead image at s blank (rows shape))
   read-long = rw read-size (rows-fit shape)
 
   read-row : (k : ℕ) → k < rows shape → getD (strideRead image at s blank (rows shape)) k 0 ≡ getD image (at + k * s) 0
@@ -40,13 +42,48 @@ module _ (image : List ℕ) (shape : Shape) (at s : ℕ) where
       rw (not-mended shape (strideRead image at s blank (rows shape)) v says read-long keys)
       (sym (stores-same image (λ k. at + k * s) (λ k. getD (strideRead image at s blank (rows shape)) k 0) (rows shape) read-row))
 
-  -- a valid block without interleave is clean
-  pub clean-there : validFrom shape at image ≡ true → s ≡ 1 → Clean ≡ verdictOf shape (strideRead image at s blank (rows shape))
-  clean-there there alone =
-      valid-clean shape at image there
-      ∙ same-verdict shape (drop at image) (strideRead image at s blank (rows shape))
-      (λ k h.
-      let e : at + k ≡ at + k * s = rw alone (omega arith) in
-      getD-drop at image k 0 ∙ ap (λ (i : ℕ). getD image i 0) e ∙ sym (read-row k h))
-      (let fits = valid-fits shape at image there in omega (arith, length-drop at image))
-      read-long
+  -- what is decided of the rows that are read, by their sums
+  pub decided-there : {gathered mended sums : List ℕ} {v : Verdict} → sums ≡ sumsOf shape (strideRead image at s blank (rows shape)) → gathered ≡ strideRead image at s blank (rows shape)
+      → Decides shape gathered sums v mended
+      → (v ≡ verdictOf shape gathered) × (mended ≡ mendedBlock shape gathered) × (length mended ≡ 72)
+  decided-there {gathered = found} are took d =
+      let long : rows shape ≤ length found = rw took read-long in
+      let e = decided shape found long (are ∙ ap (sumsOf shape) (sym took)) d in
+      (e .0, e .1, ap length (e .1) ∙ length-mended shape found ∙ ap length took ∙ read-size)
+
+  -- the rows that lie there are those that are read
+  lying-row : SameRows shape (lying shape image at s) (strideRead image at s blank (rows shape))
+  unfolding lying
+  lying-row k h = getD-listOf (rows shape) (λ k. getD image (at + k * s) 0) k h ∙ sym (read-row k h)
+
+  module _ (inside : Inside (length image) (rows shape) at s) {lent after : List ℕ} {found : ℕ} (looked : Looks shape image at s lent found after) where
+    room : at + before shape * s < length image
+    room = inside .1 (before shape) (omega arith)
+
+    -- where no lane is doubtful the block is clean
+    pub clean-there : found ≡ 0 → Clean ≡ verdictOf shape (strideRead image at s blank (rows shape))
+    clean-there none =
+        clean-verdict shape (strideRead image at s blank (rows shape)) read-long
+        (sym (doubt-alike shape (lying shape image at s) (strideRead image at s blank (rows shape)) lying-row) ∙ sym (looked .there room .0) ∙ none)
+
+    -- and where one is the sums found are those of the rows that are read
+    pub sums-there : (found ≡ 0 → ⊥) → after ≡ sumsOf shape (strideRead image at s blank (rows shape))
+    sums-there some =
+        looked .there room .1 ∙ refused-kept found lent (sumsOf shape (lying shape image at s)) some
+        ∙ sums-alike shape (lying shape image at s) (strideRead image at s blank (rows shape)) lying-row
+
+    -- the data words that lie there are those of the rows that are read
+    pub data-there : {buffer copied : List ℕ} → CopiesData shape image at s buffer copied
+        → copied ≡ dataInto shape (strideRead image at s blank (rows shape)) buffer
+    data-there {buffer = buffer} copies =
+        copies .there room ∙ data-alike shape (lying shape image at s) (strideRead image at s blank (rows shape)) lying-row buffer
+
+-- a gathered block lies in itself
+pub data-gathered : (shape : Shape) {block buffer copied : List ℕ} → length block ≡ 72 → CopiesData shape block 0 1 buffer copied
+    → copied ≡ dataInto shape block buffer
+data-gathered shape {block = block} {buffer = buffer} long copies =
+    copies .there (omega (arith, before-lt shape))
+    ∙ data-alike shape (lying shape block 0 1) block same buffer
+  where
+    same : SameRows shape (lying shape block 0 1) block
+    same k h = unfold lying in (getD-listOf (rows shape) (λ k. getD block (0 + k * 1) 0) k h ∙ ap (λ (j : ℕ). getD block j 0) (let e : 0 + k * 1 ≡ k = omega arith in e))

@@ -1,7 +1,7 @@
-// A block's rows between the image and an array: gathered, and scattered.
+// A block's rows between the image and an array: gathered, and scattered. Neighbours are copied many at a time, others four a turn.
 // A shared image is lent on as `&*image`, which the compiler passes as a bare pointer.
 ghost use mathlib.Core.Path.{_≡_};
-ghost use Prim.Native.Nat.{_≤_};
+ghost use Prim.Native.Nat.{_%_, _≤_};
 ghost use lib.ListN.{length};
 ghost use Rattle.shape.specs.Shape.{mostRows, rows};
 ghost use Rattle.store.specs.Inner.{Inside, strideRead, strideWrite};
@@ -9,51 +9,57 @@ use shape::MOST_ROWS;
 use shape::Shape;
 use shape::rows;
 
-// The words at `at`, `at + s`, `at + 2 s`, .., `rows` of them, into the first of the block.
-fn take_rows(image: &[u32], rows: usize, at: usize, s: usize, block: &mut [u32; MOST_ROWS])
-    requires { ⌜ (rows ≤ mostRows) × Inside (length (now image)) rows at s ⌝ }
-    ensures { λ r. ⌜ now (block .exit) ≡ strideRead (now (image .entry)) at s (now (block .entry)) rows ⌝ }
+// The words at `at`, `at + 1`, .., `rows` of them, into the first of the block.
+fn take_beside(image: &[u32], rows: usize, at: usize, block: &mut [u32; MOST_ROWS])
+    requires { ⌜ (rows ≤ mostRows) × Inside (length (now image)) rows at 1 ⌝ }
+    ensures { λ r. ⌜ now (block .exit) ≡ strideRead (now (image .entry)) at 1 (now (block .entry)) rows ⌝ }
 {
-    let mut i = at;
     for k in 0..rows {
-        block[k] = image[i];
-        i += s;
+        block[k] = image[at + k];
     }
 }
 
-// As take_rows, with the stride as a constant where the words are neighbours: the compiler copies them many at a time.
-fn take(image: &[u32], rows: usize, at: usize, s: usize, block: &mut [u32; MOST_ROWS])
-    requires { ⌜ (rows ≤ mostRows) × Inside (length (now image)) rows at s ⌝ }
+// The words at `at`, `at + s`, `at + 2 s`, .., `rows` of them, into the first of the block.
+fn take_apart(image: &[u32], rows: usize, at: usize, s: usize, block: &mut [u32; MOST_ROWS])
+    requires { ⌜ (rows ≤ mostRows) × (rows % 4 ≡ 0) × Inside (length (now image)) rows at s ⌝ }
     ensures { λ r. ⌜ now (block .exit) ≡ strideRead (now (image .entry)) at s (now (block .entry)) rows ⌝ }
 {
-    if s == 1 {
-        take_rows(&*image, rows, at, 1, block);
-    } else {
-        take_rows(&*image, rows, at, s, block);
+    let mut i = at;
+    let mut k = 0;
+    while k < rows {
+        block[k] = image[i];
+        block[k + 1] = image[i + s];
+        block[k + 2] = image[i + 2 * s];
+        block[k + 3] = image[i + 3 * s];
+        i += 4 * s;
+        k += 4;
+    }
+}
+
+// The first `rows` words of the block at `at`, `at + 1`, ..
+fn put_beside(image: &mut [u32], rows: usize, at: usize, block: &[u32; MOST_ROWS])
+    requires { ⌜ (rows ≤ mostRows) × Inside (length (now image)) rows at 1 ⌝ }
+    ensures { λ r. ⌜ now (image .exit) ≡ strideWrite (now (image .entry)) at 1 (now (block .entry)) rows ⌝ }
+{
+    for k in 0..rows {
+        image[at + k] = block[k];
     }
 }
 
 // The first `rows` words of the block at `at`, `at + s`, `at + 2 s`, ..
-fn put_rows(image: &mut [u32], rows: usize, at: usize, s: usize, block: &[u32; MOST_ROWS])
-    requires { ⌜ (rows ≤ mostRows) × Inside (length (now image)) rows at s ⌝ }
+fn put_apart(image: &mut [u32], rows: usize, at: usize, s: usize, block: &[u32; MOST_ROWS])
+    requires { ⌜ (rows ≤ mostRows) × (rows % 4 ≡ 0) × Inside (length (now image)) rows at s ⌝ }
     ensures { λ r. ⌜ now (image .exit) ≡ strideWrite (now (image .entry)) at s (now (block .entry)) rows ⌝ }
 {
     let mut i = at;
-    for k in 0..rows {
+    let mut k = 0;
+    while k < rows {
         image[i] = block[k];
-        i += s;
-    }
-}
-
-// As put_rows, with the stride as a constant where the words are neighbours.
-fn put(image: &mut [u32], rows: usize, at: usize, s: usize, block: &[u32; MOST_ROWS])
-    requires { ⌜ (rows ≤ mostRows) × Inside (length (now image)) rows at s ⌝ }
-    ensures { λ r. ⌜ now (image .exit) ≡ strideWrite (now (image .entry)) at s (now (block .entry)) rows ⌝ }
-{
-    if s == 1 {
-        put_rows(image, rows, at, 1, block);
-    } else {
-        put_rows(image, rows, at, s, block);
+        image[i + s] = block[k + 1];
+        image[i + 2 * s] = block[k + 2];
+        image[i + 3 * s] = block[k + 3];
+        i += 4 * s;
+        k += 4;
     }
 }
 
@@ -62,9 +68,11 @@ pub(crate) fn gather(image: &[u32], shape: Shape, at: usize, s: usize, block: &m
     requires { ⌜ Inside (length (now image)) (rows shape) at s ⌝ }
     ensures { λ r. ⌜ now (block .exit) ≡ strideRead (now (image .entry)) at s (now (block .entry)) (rows shape) ⌝ }
 {
-    match shape {
-        Shape::One => take(&*image, rows(Shape::One), at, s, block),
-        Shape::Two => take(&*image, rows(Shape::Two), at, s, block),
+    let count = rows(shape);
+    if s == 1 {
+        take_beside(&*image, count, at, block);
+    } else {
+        take_apart(&*image, count, at, s, block);
     }
 }
 
@@ -79,8 +87,10 @@ pub(crate) fn scatter(
     requires { ⌜ Inside (length (now image)) (rows shape) at s ⌝ }
     ensures { λ r. ⌜ now (image .exit) ≡ strideWrite (now (image .entry)) at s (now (block .entry)) (rows shape) ⌝ }
 {
-    match shape {
-        Shape::One => put(image, rows(Shape::One), at, s, block),
-        Shape::Two => put(image, rows(Shape::Two), at, s, block),
+    let count = rows(shape);
+    if s == 1 {
+        put_beside(image, count, at, block);
+    } else {
+        put_apart(image, count, at, s, block);
     }
 }

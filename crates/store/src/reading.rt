@@ -1,7 +1,8 @@
-// Read: the mended data of a block, copied to a lent buffer.
+// Read: the mended data of a block, copied to a lent buffer, straight from the image where the block is valid.
 ghost use Rattle.store.specs.Read.{Reads};
 use super::Answer;
 use super::copies::gather;
+use block::SUM_WORDS;
 use block::Verdict;
 use layout::Layout;
 use layout::Site;
@@ -16,13 +17,19 @@ pub fn read(image: &[u32], layout: Layout, block: u32, buffer: &mut [u32]) -> An
             if buffer.len() != shape::words(shape) {
                 return Answer::Refused(7);
             }
+            let s = layout.s;
+            let mut sums = [0u32; SUM_WORDS];
+            if block::look(shape, image, at as u32, s, &mut sums) == 0 {
+                block::data_into(shape, image, at as u32, s, buffer);
+                return Answer::Found(Verdict::Clean);
+            }
             let mut rows = [0u32; MOST_ROWS];
-            gather(image, shape, at, layout.s as usize, &mut rows);
-            let verdict = block::decide(shape, &mut rows);
+            gather(image, shape, at, s as usize, &mut rows);
+            let verdict = block::decide(shape, &mut rows, &sums);
             if let Verdict::Lost(_) = verdict {
                 return Answer::Found(verdict);
             }
-            block::data_into(shape, &rows, buffer);
+            block::data_into(shape, &rows, 0, 1, buffer);
             Answer::Found(verdict)
         }
     }

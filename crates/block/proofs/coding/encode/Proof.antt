@@ -1,98 +1,106 @@
 -- `block::coding::encode` meets its contract: the words of the sums set the check rows. Assumes nothing.
 use Prim.Native.Nat.{ℕ, _^_, _<_}
-use mathlib.Core.Path.{_≡_, ap, ap₂, _∙_}
+use mathlib.Core.Path.{_≡_, refl, sym, ap, ap₂, _∙_}
 use mathlib.Core.List.{List}
+use mathlib.Core.Logic.{⊎-elim}
 use native.Mathlib.Omega.{arith}
 use lib.Bits.{bitXor}
-use lib.ListN.{getD, set}
+use lib.ListN.{length, getD, set}
 use borrow.Author.Needs.{needs}
 use Rattle.shape.specs.declared.Shape.{Shape}
-use Rattle.block.specs.declared.sums.Sums.{Sums}
 use Rattle.shape.specs.Shape.{before}
-use Rattle.block.specs.Block.{dataBlock}
-use Rattle.block.specs.Inner.{sumsOf, xorAll, withChecks}
 use Rattle.shape.proofs.Sizes.{before-lt}
-use Rattle.block.proofs.Encoding.{built}
+use Rattle.block.specs.Block.{dataBlock}
+use Rattle.block.specs.Sums.{sumsOf}
+use Rattle.block.specs.Inner.{listed?, above?, rising?, xorAll, withChecks}
+use Rattle.block.proofs.Data.{length-data}
+use Rattle.block.proofs.DataTables.{data-one, data-two, table-spread}
+use Rattle.block.proofs.Encoding.{built, own-sums}
 use Rattle.block.proofs.coding.encode.Statement.{statement}
 use Rattle.block.proofs.coding.encode.Tie as tie
 
--- the start, from where the sums are known, and that place from where the rows are
-abbrev start : tie.After-lane-sums → tie.Start
-start c = c .before .before .before .before
+-- places on the way, each from a later one: the start, the data placed, the sums known, their exclusive or known
+abbrev start : tie.At-match-came → tie.Start
+start c = c .before .before
+
+abbrev came : tie.After-sums-beside → tie.At-match-came
+came c = c .before .before .before
 
 abbrev xored : tie.After-rows-before → tie.After-xor-all
-xored c = c .before .before .before .before .before
+xored c = c .before .before .before .before
 
-abbrev sums : tie.After-rows-before → tie.After-lane-sums
-sums c = xored c .before .before .before
+abbrev summed : tie.After-rows-before → tie.After-sums-beside
+summed c = xored c .before .before
 
-spread-data-requires : tie.Need-spread-data-requires
-spread-data-requires c κs = search needs
+spread-requires : tie.Need-spread-requires
+unfolding listed? rising? above?
+spread-requires c κs = (refl, refl, refl)
 
-slice-aggregate-lane-sums : tie.Need-slice-aggregate-lane-sums
-slice-aggregate-lane-sums c = search needs
+spread-requires-2 : tie.Need-spread-requires-2
+unfolding listed? rising? above?
+spread-requires-2 c κs = (refl, refl, refl)
 
-lane-sums-requires : tie.Need-lane-sums-requires
-lane-sums-requires c κs = search needs
+-- the data block of the shape that is told
+of-shape : {shape known : Shape} → shape ≡ known → (list : List ℕ) {block : List ℕ} → block ≡ dataBlock known list → block ≡ dataBlock shape list
+of-shape told list e = e ∙ ap (λ (s : Shape). dataBlock s list) (sym told)
 
-xor-all-requires : tie.Need-xor-all-requires
-xor-all-requires c κs = search needs
+placed-is : (c : tie.At-match-came) → c .match .block ≡ dataBlock (start c .args .shape) (start c .args .list .now)
+placed-is c =
+    let list = start c .args .list .now in
+    ⊎-elim (λ one. of-shape (one .1 .given .1) list (one .5 ∙ table-spread data-one _ list (one .4 .ensures) refl))
+    (λ two. of-shape (two .1 .given .1) list (two .5 ∙ table-spread data-two _ list (two .4 .ensures) refl)) (c .match .came)
 
-set-checks-requires : tie.Need-set-checks-requires
-set-checks-requires c κs = search needs
-
-rows-before-requires : tie.Need-rows-before-requires
-rows-before-requires c κs = search needs
+block-long : (c : tie.At-match-came) → length (c .match .block) ≡ 72
+block-long c = ap length (placed-is c) ∙ length-data (start c .args .shape) (start c .args .list .now)
 
 module _ (c : tie.After-rows-before) where
   abbrev shape : Shape
-  shape = start (sums c) .args .shape
+  shape = start (came (summed c)) .args .shape
 
   abbrev list : List ℕ
-  list = start (sums c) .args .list .now
+  list = start (came (summed c)) .args .list .now
 
-  abbrev placed : List ℕ
-  placed = dataBlock shape list
+  abbrev sums : List ℕ
+  sums = sumsOf shape (dataBlock shape list)
 
-  placed-is : sums c .before .before .spread-data .result ≡ placed
-  placed-is = sums c .before .before .spread-data .ensures
+  abbrev after : List ℕ
+  after = summed c .sums-beside .last .1 .1 .0
 
-  sums-are : sums c .lane-sums .result ≡ sumsOf shape placed
-  sums-are = sums c .lane-sums .ensures ∙ ap (sumsOf shape) placed-is
+  sums-are : after ≡ sums
+  sums-are = own-sums shape list (placed-is (came (summed c))) (summed c .sums-beside .ensures)
 
-  checks-are : c .before .set-checks .last .0 ≡ withChecks (sumsOf shape placed .digits) placed
-  checks-are = c .before .set-checks .ensures ∙ ap₂ (λ (s : Sums) (b : List ℕ). withChecks (s .digits) b) sums-are placed-is
+  checks-are : c .before .set-checks .last .0 ≡ withChecks sums (dataBlock shape list)
+  checks-are = c .before .set-checks .ensures ∙ ap₂ withChecks sums-are (placed-is (came (summed c)))
 
   -- the word of the last row
-  last-is : bitXor (sums c .lane-sums .result .parity) (xored c .xor-all .result)
-      ≡ bitXor (sumsOf shape placed .parity) (xorAll 7 (sumsOf shape placed .digits))
-  last-is = ap₂ bitXor (ap (λ (s : Sums). s .parity) sums-are) (xored c .xor-all .ensures ∙ ap (λ (s : Sums). xorAll 7 (s .digits)) sums-are)
+  last-is : bitXor (getD after 7 0) (xored c .xor-all .result) ≡ bitXor (getD sums 7 0) (xorAll 7 sums)
+  last-is = ap₂ bitXor (ap (λ (s : List ℕ). getD s 7 0) sums-are) (xored c .xor-all .ensures ∙ ap (xorAll 7) sums-are)
 
   words-fit : (k : ℕ) → getD list k 0 < 2 ^ 32
-  words-fit k = omega (arith, sums c .before .before .before .shared-slice-known .given k)
-
-mul-block : tie.Need-mul-block
-mul-block c = omega (arith, c .rows-before .ensures, before-lt (shape c))
-
-array-write-block : tie.Need-array-write-block
-array-write-block c = omega (arith, c .rows-before .ensures, before-lt (shape c))
+  words-fit k = omega (arith, came (summed c) .before .shared-slice-known .given k)
 
 returns : tie.Need-returns
 returns c =
-    ap₂ (λ (w : List ℕ) (k : ℕ). set w k (bitXor (sums c .lane-sums .result .parity) (xored c .xor-all .result))) (checks-are c) (c .rows-before .ensures)
-    ∙ ap (set (withChecks (sumsOf (shape c) (placed c) .digits) (placed c)) (before (shape c))) (last-is c)
-    ∙ built (shape c) (list c) (λ k. words-fit c k)
+    ap₂ (λ (w : List ℕ) (k : ℕ). set w k (bitXor (getD (after c) 7 0) (xored c .xor-all .result))) (checks-are c) (c .rows-before .ensures)
+    ∙ ap (set (withChecks (sums c) (dataBlock (shape c) (list c))) (before (shape c))) (last-is c)
+    ∙ built (shape c) (list c) (words-fit c)
 
 pub encode-spec : {M : Type 1} → statement M
 encode-spec =
     tie.close
     (tie.spec
-    spread-data-requires
-    slice-aggregate-lane-sums
-    lane-sums-requires
-    xor-all-requires
-    set-checks-requires
-    rows-before-requires
-    mul-block
-    array-write-block
+    (λ c. search needs)
+    (λ c. search needs)
+    spread-requires
+    (λ c. search needs)
+    (λ c. search needs)
+    spread-requires-2
+    (λ c. sym (block-long (c .before)))
+    (λ c κs. omega (arith, block-long (c .before .before)))
+    (λ c. search needs)
+    (λ c κs. search needs)
+    (λ c κs. search needs)
+    (λ c κs. search needs)
+    (λ c. omega (arith, c .rows-before .ensures, before-lt (shape c)))
+    (λ c. omega (arith, c .rows-before .ensures, before-lt (shape c)))
     returns)

@@ -13,10 +13,10 @@ use Rattle.block.proofs.coding.set_checks.Statement.{statement}
 use Rattle.block.proofs.coding.set_checks.Tie as tie
 
 abbrev Inv-loop : tie.InvT-loop
-Inv-loop block₀ digits at₀ k₀ block at k = (k ≤ 7) × (block ≡ stores block₀ (λ j. 2 ^ j - 1) (λ j. getD digits j 0) k) × (at ≡ 2 ^ k)
+Inv-loop block₀ sums at₀ k₀ block at k = (k ≤ 7) × (block ≡ stores block₀ (λ j. 2 ^ j - 1) (λ j. getD sums j 0) k) × (at ≡ 2 ^ k)
 
 abbrev μ-loop : tie.MeasureT-loop
-μ-loop block₀ digits at₀ k₀ block at k = 7 - k
+μ-loop block₀ sums at₀ k₀ block at k = 7 - k
 
 -- the row is there
 there : (c : tie.In-loop Inv-loop μ-loop) → (1 ≤ c .before .loop .at) × (c .before .loop .at ≤ 64)
@@ -29,30 +29,6 @@ loop-holds : tie.Need-loop-holds Inv-loop μ-loop
 unfolding stores
 loop-holds c = (omega arith, refl, refl)
 
-mul-block : tie.Need-mul-block Inv-loop μ-loop
-mul-block c = omega arith
-
-element-copy-out-block : tie.Need-element-copy-out-block Inv-loop μ-loop
-element-copy-out-block c = search needs
-
-sub-block : tie.Need-sub-block Inv-loop μ-loop
-sub-block c = there (c .before) .0
-
-mul-block-2 : tie.Need-mul-block-2 Inv-loop μ-loop
-mul-block-2 c = omega (arith, there (c .before))
-
-element-write-block : tie.Need-element-write-block Inv-loop μ-loop
-element-write-block c = omega (arith, there (c .before))
-
-mul-at : tie.Need-mul-at Inv-loop μ-loop
-mul-at c = omega (arith, there (c .before))
-
-add-k : tie.Need-add-k Inv-loop μ-loop
-add-k c = search needs
-
-loop-less : tie.Need-loop-less Inv-loop μ-loop
-loop-less c = search needs
-
 loop-again : tie.Need-loop-again Inv-loop μ-loop
 unfolding stores
 loop-again c = rw add-one (omega arith, rw (c .before .before .loop .inv .1, c .before .before .loop .inv .2), rw pow-suc (omega arith))
@@ -62,7 +38,7 @@ unfolding withChecks
 returns c =
     let args = c .before .before .args in
     let e : c .before .loop .k ≡ 7 = omega arith in
-    c .before .loop .inv .1 ∙ ap (stores (args .block .now) (λ j. 2 ^ j - 1) (λ j. getD (args .digits .now) j 0)) e
+    c .before .loop .inv .1 ∙ ap (stores (args .block .now) (λ j. 2 ^ j - 1) (λ j. getD (args .sums .now) j 0)) e
 
 pub set-checks-spec : {M : Type 1} → statement M
 set-checks-spec =
@@ -71,13 +47,13 @@ set-checks-spec =
     Inv-loop
     μ-loop
     loop-holds
-    mul-block
-    element-copy-out-block
-    sub-block
-    mul-block-2
-    element-write-block
-    mul-at
-    add-k
-    loop-less
+    (λ c. omega arith)
+    (λ c. search needs)
+    (λ c. there (c .before) .0)
+    (λ c. omega (arith, there (c .before)))
+    (λ c. omega (arith, there (c .before)))
+    (λ c. omega (arith, there (c .before)))
+    (λ c. search needs)
+    (λ c. search needs)
     loop-again
     returns)

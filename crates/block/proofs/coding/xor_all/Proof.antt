@@ -9,26 +9,14 @@ use Rattle.block.proofs.coding.xor_all.Statement.{statement}
 use Rattle.block.proofs.coding.xor_all.Tie as tie
 
 abbrev Inv-loop : tie.InvT-loop
-Inv-loop digits lanes₀ k₀ lanes k = (k ≤ 7) × (lanes ≡ xorAll k digits)
+Inv-loop sums lanes₀ k₀ lanes k = (k ≤ 7) × (lanes ≡ xorAll k sums)
 
 abbrev μ-loop : tie.MeasureT-loop
-μ-loop digits lanes₀ k₀ lanes k = 7 - k
+μ-loop sums lanes₀ k₀ lanes k = 7 - k
 
 loop-holds : tie.Need-loop-holds Inv-loop μ-loop
 unfolding xorAll
 loop-holds c = (omega arith, refl)
-
-mul-lanes : tie.Need-mul-lanes Inv-loop μ-loop
-mul-lanes c = search needs
-
-element-copy-out-lanes : tie.Need-element-copy-out-lanes Inv-loop μ-loop
-element-copy-out-lanes c = search needs
-
-add-k : tie.Need-add-k Inv-loop μ-loop
-add-k c = search needs
-
-loop-less : tie.Need-loop-less Inv-loop μ-loop
-loop-less c = search needs
 
 loop-again : tie.Need-loop-again Inv-loop μ-loop
 unfolding xorAll
@@ -37,7 +25,7 @@ loop-again c = (omega arith, rw (add-one, c .before .before .loop .inv .1))
 returns : tie.Need-returns Inv-loop μ-loop
 returns c =
     let e : c .before .loop .k ≡ 7 = omega arith in
-    c .before .loop .inv .1 ∙ ap (λ (k : ℕ). xorAll k (c .before .before .args .digits .now)) e
+    c .before .loop .inv .1 ∙ ap (λ (k : ℕ). xorAll k (c .before .before .args .sums .now)) e
 
 pub xor-all-spec : {M : Type 1} → statement M
 xor-all-spec =
@@ -46,9 +34,9 @@ xor-all-spec =
     Inv-loop
     μ-loop
     loop-holds
-    mul-lanes
-    element-copy-out-lanes
-    add-k
-    loop-less
+    (λ c. search needs)
+    (λ c. search needs)
+    (λ c. search needs)
+    (λ c. search needs)
     loop-again
     returns)

@@ -61,7 +61,7 @@ loop-again c =
 returns : tie.Need-returns Inv-loop μ-loop
 returns c =
     let e : c .before .loop .k ≡ 7 = omega arith in
-    c .before .loop .inv .1 ∙ ap (λ (k : ℕ). aboveOf (c .before .before .args .top) k (c .before .before .args .digits .now)) e
+    c .before .loop .inv .1 ∙ ap (λ (k : ℕ). aboveOf (c .before .before .args .top) k (c .before .before .args .sums .now)) e
 
 pub above-spec : {M : Type 1} → statement M
 above-spec =

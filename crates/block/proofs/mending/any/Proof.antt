@@ -37,7 +37,7 @@ loop-again c = (omega arith, rw (add-one, c .before .before .loop .inv .1))
 returns : tie.Need-returns Inv-loop μ-loop
 returns c =
     let e : c .before .loop .k ≡ 7 = omega arith in
-    c .before .loop .inv .1 ∙ ap (λ (k : ℕ). anyOf k (c .before .before .args .digits .now)) e
+    c .before .loop .inv .1 ∙ ap (λ (k : ℕ). anyOf k (c .before .before .args .sums .now)) e
 
 pub any-spec : {M : Type 1} → statement M
 any-spec =

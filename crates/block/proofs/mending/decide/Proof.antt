@@ -1,97 +1,110 @@
--- `block::mending::decide` meets its contract: clean where no sum is set, and else in doubt. Assumes nothing.
-use Prim.Native.Nat.{ℕ, _^_, _≤_, _<_}
-use mathlib.Core.Path.{_≡_, sym, ap, _∙_}
+-- `block::mending::decide` meets its contract: the words decide as the definitions do. Assumes nothing.
+use Prim.Native.Nat.{ℕ, _+_, _-_, _^_, _<_}
+use mathlib.Core.Path.{_≡_, sym, ap, ap₂, _∙_}
 use mathlib.Core.List.{List}
 use native.Mathlib.Omega.{arith}
-use lib.ListN.{length}
+use lib.Bits.{bitAnd, bitOr}
+use lib.Count.{ones}
+use lib.ListN.{getD}
 use borrow.Author.Needs.{needs}
+use Rattle.lane.specs.Bit.{bit}
 use Rattle.shape.specs.declared.Shape.{Shape}
-use Rattle.block.specs.declared.sums.Sums.{Sums}
-use Rattle.block.specs.declared.Verdict.{Verdict}
-use Rattle.block.specs.declared.Verdict.the-variants.{Clean}
-use Rattle.shape.specs.Shape.{rows}
-use Rattle.block.specs.Block.{mendedBlock}
-use Rattle.block.specs.Verdict.{verdictOf, Decides}
-use Rattle.block.specs.Inner.{sumsOf, InDoubt}
-use Rattle.shape.proofs.Sizes.{rows-fit}
-use Rattle.block.proofs.Judged.{clean-verdict, clean-block}
-use Rattle.block.proofs.Looked.{quiet, any-lt, parity-lt}
-use Rattle.block.proofs.Verdicts.{decides}
+use Rattle.shape.specs.Shape.{before}
+use Rattle.shape.proofs.Sizes.{before-small, before-lt}
+use Rattle.block.specs.declared.Verdict.the-variants.{Mended, Lost}
+use Rattle.block.specs.Verdict.{saidOf}
+use Rattle.block.specs.Inner.{anyOf, aboveOf, lostLanes, flippedIn}
+use Rattle.block.proofs.Judged.{lost-decides, clean-decides, mended-decides, named-low}
 use Rattle.block.proofs.mending.decide.Statement.{statement}
 use Rattle.block.proofs.mending.decide.Tie as tie
 
--- the start, from where the sums are known
-abbrev start : tie.After-lane-sums → tie.Start
-start c = c .before .before .before
+-- ---- what the words are, once they are computed
 
--- and where they are known, from where one of them is set
-abbrev summed : tie.Else1 → tie.After-lane-sums
-summed c = c .before .before
+module _ (c : tie.After-above) where
+  abbrev start : tie.Start
+  start = c .before .before .before .before
 
-long : (c : tie.After-lane-sums) → length (start c .args .block .now) ≡ 72
-long c = c .before .lane-sums-arg2 .given .0
+  abbrev shape : Shape
+  shape = start .args .shape
 
-module _ (shape : Shape) (block : List ℕ) (sums : Sums) (are : sums ≡ sumsOf shape block) (size : length block ≡ 72) where
-  some-is : sums .some ≡ sumsOf shape block .some
-  some-is = ap (λ (s : Sums). s .some) are
+  abbrev block : List ℕ
+  block = start .args .block .now
 
-  clean : sums .some < 2 ^ 32 → sums .some ≡ 0 → Decides shape block Clean block
-  clean small none =
-      let fit : rows shape ≤ length block = omega (arith, rows-fit shape) in
-      let lt : sumsOf shape block .some < 2 ^ 32 = omega (arith, some-is) in
-      let silent = quiet shape block (sym some-is ∙ none) in
-      decides shape block (
-        clean-verdict shape block (parity-lt shape block fit lt) (any-lt shape block fit lt) fit silent,
-        clean-block shape block (parity-lt shape block fit lt) (any-lt shape block fit lt) fit silent,
-      )
+  abbrev sums : List ℕ
+  sums = start .args .sums .now
 
-  doubt : {known : Shape} → shape ≡ known → (sums .some ≡ 0 → ⊥) → InDoubt known block (sums .digits) (sums .parity)
-  doubt told some = rw (← told) (size, ap (λ (s : Sums). s .digits) are, ap (λ (s : Sums). s .parity) are, λ z. some (some-is ∙ z))
+  top-is : c .before .before .before .rows-before .result ≡ before shape
+  top-is = c .before .before .before .rows-before .ensures
 
--- what is decided of the shape that is told is decided of the shape
-of-shape : {shape known : Shape} → shape ≡ known → (block after : List ℕ) (v : Verdict)
-    → (v ≡ verdictOf known block) × (after ≡ mendedBlock known block) → Decides shape block v after
-of-shape {shape} told block after v e = decides shape block (rw told e)
+  parity-is : c .before .before .odd .result ≡ getD sums 7 0
+  parity-is = c .before .before .odd .ensures
 
-lane-sums-requires : tie.Need-lane-sums-requires
-lane-sums-requires c κs = c .lane-sums-arg2 .given .0
+  parity-lt : getD sums 7 0 < 2 ^ 32
+  parity-lt = let h : c .before .before .odd .result < 2 ^ 32 = omega arith in omega (arith, parity-is)
+
+  any-lt : anyOf 7 sums < 2 ^ 32
+  any-lt = let h : c .before .any .result < 2 ^ 32 = omega arith in omega (arith, c .before .any .ensures)
+
+  abbrev lanes : ℕ
+  lanes = lostLanes (before shape) (getD sums 7 0) sums
+
+  lost-is : bitOr (bitAnd (c .before .any .result) ((2 ^ 32 - 1) - c .before .before .odd .result)) (bitAnd (c .before .before .odd .result) (c .above .result))
+      ≡ lanes
+  lost-is =
+      ap₂ bitOr (ap₂ (λ (x y : ℕ). bitAnd x ((2 ^ 32 - 1) - y)) (c .before .any .ensures) parity-is)
+      (ap₂ bitAnd parity-is (c .above .ensures ∙ ap (λ (t : ℕ). aboveOf t 7 sums) top-is))
+
+none-lost : (c : tie.Else1) → lanes (c .before) ≡ 0
+none-lost c = sym (lost-is (c .before)) ∙ c .if1 .left
+
+some-lost : (c : tie.Then1) → lanes (c .before) ≡ 0 → ⊥
+some-lost c e = c .if1 .taken (lost-is (c .before) ∙ e)
 
 returns : tie.Need-returns
-returns c = let a = c .before .before in clean _ _ _ (a .lane-sums .ensures) (long a) (omega arith) (c .if1 .taken)
-
-enum-told : tie.Need-enum-told
-enum-told c = search needs
-
-in-doubt-requires : tie.Need-in-doubt-requires
-in-doubt-requires c κs =
-    let told = c .before .before in
-    let set = told .before .before .before in
-    doubt _ _ _ (summed set .lane-sums .ensures) (long (summed set)) (told .enum-told .given .1) (set .if1 .left)
-
-enum-told-2 : tie.Need-enum-told-2
-enum-told-2 c = search needs
-
-in-doubt-requires-2 : tie.Need-in-doubt-requires-2
-in-doubt-requires-2 c κs =
-    let told = c .before .before in
-    let set = told .before .before .before in
-    doubt _ _ _ (summed set .lane-sums .ensures) (long (summed set)) (told .enum-told2 .given .1) (set .if1 .left)
+returns c =
+    let b = c .before in
+    record {
+      says = ap (λ (w : ℕ). saidOf (Lost (ones w))) (lost-is b) ∙ lost-decides (shape b) (sums b) (parity-lt b) (any-lt b) (block b) (some-lost c) .says;
+      leaves = lost-decides (shape b) (sums b) (parity-lt b) (any-lt b) (block b) (some-lost c) .leaves;
+    }
 
 returns-2 : tie.Need-returns-2
-returns-2 c = of-shape (c .before .before .before .enum-told .given .1) _ _ _ (c .in-doubt .ensures)
+returns-2 c =
+    let b = c .before .before in
+    clean-decides (shape b) (sums b) (parity-lt b) (any-lt b) (block b) (none-lost (c .before)) (sym (parity-is b) ∙ c .if2 .taken)
+
+add-flip-named : tie.Need-add-flip-named
+add-flip-named c = let b = c .before .before .before in omega (arith, top-is b, before-small (shape b))
+
+flip-named-requires : tie.Need-flip-named-requires
+flip-named-requires c κs =
+    let b = c .before .before .before in
+    let low = named-low (shape b) (sums b) (parity-lt b) (any-lt b) (block b) (none-lost (c .before .before)) in (
+      omega arith,
+      omega (arith, top-is b, before-lt (shape b)),
+      λ i h e. omega (arith, top-is b, low i h (sym (ap (bit i) (parity-is b)) ∙ e)),
+    )
 
 returns-3 : tie.Need-returns-3
-returns-3 c = of-shape (c .before .before .before .enum-told2 .given .1) _ _ _ (c .in-doubt2 .ensures)
+returns-3 c =
+    let b = c .before .before .before .before in
+    let d = mended-decides (shape b) (sums b) (parity-lt b) (any-lt b) (block b) (none-lost (c .before .before .before)) (λ z. c .before .before .if2 .left (parity-is b ∙ z)) in
+    record {
+      says = ap (λ (w : ℕ). saidOf (Mended (ones w))) (parity-is b) ∙ d .says;
+      leaves =
+          c .flip-named .ensures ∙ ap₂ (λ (t w : ℕ). flippedIn (t + 1) (sums b) (λ i. bit i w) (block b)) (top-is b) (parity-is b) ∙ d .leaves;
+    }
 
 pub decide-spec : {M : Type 1} → statement M
 decide-spec =
     tie.close
     (tie.spec
-    lane-sums-requires
+    (λ c κs. search needs)
+    (λ c κs. search needs)
+    (λ c κs. search needs)
+    (λ c κs. search needs)
     returns
-    enum-told
-    in-doubt-requires
-    enum-told-2
-    in-doubt-requires-2
     returns-2
+    add-flip-named
+    flip-named-requires
     returns-3)

@@ -6,7 +6,7 @@ use native.Mathlib.Nat.{le-refl}
 use native.Mathlib.Omega.{arith}
 use lib.Count.{trailingZeros}
 use Rattle.lane.specs.Bit.{bit}
-use Rattle.block.specs.Inner.{sumAt}
+use Rattle.block.specs.Sums.{sumIn}
 use Rattle.block.proofs.Flips.{trailing-set, clear-less, one-lane, named-there, doneBut, none-done, all-done, next-done, next-within}
 use Rattle.block.proofs.mending.flip_named.Statement.{statement}
 use Rattle.block.proofs.mending.flip_named.Tie as tie
@@ -36,10 +36,10 @@ there c =
     let i = lowest (c .before) in
     let l = low (c .before) in
     let h = s .pre .2 i (l .0) (c .before .before .loop .inv .1 i (l .1)) in
-    rw (c .row-named .ensures) (named-there (s .args .last) (sumAt (s .args .digits .now) i) (s .pre .0) (s .pre .1) h)
+    rw (c .row-named .ensures) (named-there (s .args .last) (sumIn (s .args .sums .now) i) (s .pre .0) (s .pre .1) h)
 
 loop-holds : tie.Need-loop-holds Inv-loop μ-loop
-loop-holds c = (none-done (c .args .last) (c .args .digits .now) (c .args .block .now) (c .args .parity), λ i e. e, le-refl _)
+loop-holds c = (none-done (c .args .last) (c .args .sums .now) (c .args .block .now) (c .args .parity), λ i e. e, le-refl _)
 
 row-named-requires : tie.Need-row-named-requires Inv-loop μ-loop
 row-named-requires c κs = low c .0
@@ -75,17 +75,17 @@ loop-again c =
     let l = low (c .before .before) in
     let t = there (c .before) in
     rw (one-lane i (l .0), inv .0) (
-      next-done (args .last) (args .digits .now) (args .block .now) (args .parity) left i (l .0) (l .1) (inv .1) (c .before .row-named .result)
+      next-done (args .last) (args .sums .now) (args .block .now) (args .parity) left i (l .0) (l .1) (inv .1) (c .before .row-named .result)
           (c .before .row-named .ensures) (t .0),
-      next-within (args .last) (args .digits .now) (args .block .now) (args .parity) left i (l .0) (l .1) (inv .1),
+      next-within (args .last) (args .sums .now) (args .block .now) (args .parity) left i (l .0) (l .1) (inv .1),
       omega (arith, inv .2, clear-less left i (omega arith) (l .0) (l .1)),
     )
 
 returns : tie.Need-returns Inv-loop μ-loop
 returns c =
     let args = c .before .before .args in
-    c .before .loop .inv .0 ∙ ap (doneBut (args .last) (args .digits .now) (args .block .now) (args .parity)) (c .loop-test .left)
-    ∙ all-done (args .last) (args .digits .now) (args .block .now) (args .parity)
+    c .before .loop .inv .0 ∙ ap (doneBut (args .last) (args .sums .now) (args .block .now) (args .parity)) (c .loop-test .left)
+    ∙ all-done (args .last) (args .sums .now) (args .block .now) (args .parity)
 
 pub flip-named-spec : {M : Type 1} → statement M
 flip-named-spec =

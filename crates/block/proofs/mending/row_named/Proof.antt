@@ -11,7 +11,7 @@ use lib.Pow.{pow-mono}
 use Rattle.lane.specs.Bit.{bit}
 use borrow.Author.Tests.{eq-eqb, ne-eqb}
 use Rattle.block.specs.Words.{number}
-use Rattle.block.specs.Inner.{sumAt}
+use Rattle.block.specs.Sums.{sumIn}
 use Rattle.block.proofs.WordBits.{digit-one, digit-zero, number-lt}
 use borrow.Author.Needs.{needs}
 use Rattle.block.proofs.mending.row_named.Statement.{statement}
@@ -28,7 +28,7 @@ abbrev start : tie.In-loop Inv-loop μ-loop → tie.Start Inv-loop μ-loop
 start c = c .before .before
 
 abbrev digit : tie.Start Inv-loop μ-loop → ℕ → Bool
-digit c j = bit (c .args .i) (getD (c .args .digits .now) j 0)
+digit c j = bit (c .args .i) (getD (c .args .sums .now) j 0)
 
 -- the weight of a digit is at most 64
 small : (c : tie.In-loop Inv-loop μ-loop) → 2 ^ c .before .loop .k ≤ 64
@@ -66,7 +66,7 @@ unfolding number
 loop-again c =
     let args = start (c .before .before) .args in
     let loop = c .before .before .before .loop in
-    let word = getD (args .digits .now) (loop .k) 0 in (
+    let word = getD (args .sums .now) (loop .k) 0 in (
       omega arith,
       rw add-one
           (⊎-elim (λ w. rw (w .1, digit-one (args .i) word (w .0 .taken), loop .inv .1, loop .inv .2))
@@ -77,7 +77,7 @@ loop-again c =
 
 -- the lane's sum
 abbrev named : tie.After-loop Inv-loop μ-loop → ℕ
-named c = sumAt (c .before .before .args .digits .now) (c .before .before .args .i)
+named c = sumIn (c .before .before .args .sums .now) (c .before .before .args .i)
 
 whole : (c : tie.After-loop Inv-loop μ-loop) → c .before .loop .sum ≡ named c
 whole c =

@@ -1,46 +1,41 @@
--- `store::copies::gather` meets its contract, shape by shape. Assumes nothing.
-use borrow.Author.Needs.{needs}
+-- `store::copies::gather` meets its contract, by the stride. Assumes nothing.
+use Prim.Native.Nat.{ℕ}
+use mathlib.Core.Path.{refl, sym, ap, ap₂, _∙_}
 use native.Mathlib.Omega.{arith}
+use borrow.Author.Needs.{needs}
+use Rattle.shape.proofs.Sizes.{rows-fit}
+use Rattle.store.specs.Inner.{strideRead}
+use Rattle.store.proofs.Turns.{whole-turns, asked}
 use Rattle.store.proofs.copies.gather.Statement.{statement}
 use Rattle.store.proofs.copies.gather.Tie as tie
 
-enum-told : tie.Need-enum-told
-enum-told c = search needs
+take-beside-requires : tie.Need-take-beside-requires
+take-beside-requires c κs =
+    let known = c .before .before in
+    let start = known .before .before in
+    (omega (arith, known .rows .ensures, rows-fit (start .args .shape)), asked _ (start .args .at) (known .rows .ensures) (c .before .if1 .taken) (start .pre))
 
-rows-requires : tie.Need-rows-requires
-rows-requires c κs = search needs
-
-take-requires : tie.Need-take-requires
-take-requires c κs =
-    let known = c .before in
-    rw (known .rows .ensures) (omega arith, rw (known .before .enum-told .given .1) at (known .before .before .before .before .pre))
-
-enum-told-2 : tie.Need-enum-told-2
-enum-told-2 c = search needs
-
-rows-requires-2 : tie.Need-rows-requires-2
-rows-requires-2 c κs = search needs
-
-take-requires-2 : tie.Need-take-requires-2
-take-requires-2 c κs =
-    let known = c .before in
-    rw (known .rows2 .ensures) (omega arith, rw (known .before .enum-told2 .given .1) at (known .before .before .before .before .pre))
+take-apart-requires : tie.Need-take-apart-requires
+take-apart-requires c κs =
+    let known = c .before .before in
+    let start = known .before .before in (
+      omega (arith, known .rows .ensures, rows-fit (start .args .shape)),
+      omega (arith, known .rows .ensures, whole-turns (start .args .shape)),
+      asked _ (start .args .at) (known .rows .ensures) refl (start .pre),
+    )
 
 returns : tie.Need-returns
-returns c = let known = c .before .before in rw (known .before .enum-told .given .1, ← known .rows .ensures) (c .take .ensures)
+returns c =
+    let known = c .before .before .before in
+    let args = known .before .before .args in
+    c .take-beside .ensures
+    ∙ ap₂ (λ (s n : ℕ). strideRead (args .image .now) (args .at) s (args .block .now) n) (sym (c .before .before .if1 .taken)) (known .rows .ensures)
 
 returns-2 : tie.Need-returns-2
-returns-2 c = let known = c .before .before in rw (known .before .enum-told2 .given .1, ← known .rows2 .ensures) (c .take2 .ensures)
+returns-2 c =
+    let known = c .before .before .before in
+    let args = known .before .before .args in
+    c .take-apart .ensures ∙ ap (strideRead (args .image .now) (args .at) (args .s) (args .block .now)) (known .rows .ensures)
 
 pub gather-spec : {M : Type 1} → statement M
-gather-spec =
-    tie.close
-    (tie.spec
-    enum-told
-    rows-requires
-    take-requires
-    enum-told-2
-    rows-requires-2
-    take-requires-2
-    returns
-    returns-2)
+gather-spec = tie.close (tie.spec (λ c κs. search needs) take-beside-requires take-apart-requires returns returns-2)

@@ -1,56 +1,41 @@
--- `store::copies::scatter` meets its contract, shape by shape. Assumes nothing.
-use borrow.Author.Needs.{needs}
+-- `store::copies::scatter` meets its contract, by the stride. Assumes nothing.
+use Prim.Native.Nat.{ℕ}
+use mathlib.Core.Path.{refl, sym, ap, ap₂, _∙_}
 use native.Mathlib.Omega.{arith}
+use borrow.Author.Needs.{needs}
+use Rattle.shape.proofs.Sizes.{rows-fit}
+use Rattle.store.specs.Inner.{strideWrite}
+use Rattle.store.proofs.Turns.{whole-turns, asked}
 use Rattle.store.proofs.copies.scatter.Statement.{statement}
 use Rattle.store.proofs.copies.scatter.Tie as tie
 
-enum-told : tie.Need-enum-told
-enum-told c = search needs
+put-beside-requires : tie.Need-put-beside-requires
+put-beside-requires c κs =
+    let known = c .before .before in
+    let start = known .before .before in
+    (omega (arith, known .rows .ensures, rows-fit (start .args .shape)), asked _ (start .args .at) (known .rows .ensures) (c .before .if1 .taken) (start .pre))
 
-rows-requires : tie.Need-rows-requires
-rows-requires c κs = search needs
-
-put-requires : tie.Need-put-requires
-put-requires c κs =
-    rw (c .rows .ensures) (omega arith, rw (c .before .before .enum-told .given .1) at (c .before .before .before .before .before .pre))
-
-enum-told-2 : tie.Need-enum-told-2
-enum-told-2 c = search needs
-
-rows-requires-2 : tie.Need-rows-requires-2
-rows-requires-2 c κs = search needs
-
-put-requires-2 : tie.Need-put-requires-2
-put-requires-2 c κs =
-    rw (c .rows2 .ensures) (omega arith, rw (c .before .before .enum-told2 .given .1) at (c .before .before .before .before .before .pre))
-
-same-length : tie.Need-same-length
-same-length c = search needs
+put-apart-requires : tie.Need-put-apart-requires
+put-apart-requires c κs =
+    let known = c .before .before in
+    let start = known .before .before in (
+      omega (arith, known .rows .ensures, rows-fit (start .args .shape)),
+      omega (arith, known .rows .ensures, whole-turns (start .args .shape)),
+      asked _ (start .args .at) (known .rows .ensures) refl (start .pre),
+    )
 
 returns : tie.Need-returns
 returns c =
-    let known = c .before .before .before in
-    rw (known .before .before .enum-told .given .1, ← known .rows .ensures) (c .before .before .put .ensures)
-
-same-length-2 : tie.Need-same-length-2
-same-length-2 c = search needs
+    let known = c .before .before .before .before .before in
+    let args = known .before .before .args in
+    c .before .before .put-beside .ensures
+    ∙ ap₂ (λ (s n : ℕ). strideWrite (args .image .now) (args .at) s (args .block .now) n) (sym (c .before .before .before .before .if1 .taken)) (known .rows .ensures)
 
 returns-2 : tie.Need-returns-2
 returns-2 c =
-    let known = c .before .before .before in
-    rw (known .before .before .enum-told2 .given .1, ← known .rows2 .ensures) (c .before .before .put2 .ensures)
+    let known = c .before .before .before .before .before in
+    let args = known .before .before .args in
+    c .before .before .put-apart .ensures ∙ ap (strideWrite (args .image .now) (args .at) (args .s) (args .block .now)) (known .rows .ensures)
 
 pub scatter-spec : {M : Type 1} → statement M
-scatter-spec =
-    tie.close
-    (tie.spec
-    enum-told
-    rows-requires
-    put-requires
-    enum-told-2
-    rows-requires-2
-    put-requires-2
-    same-length
-    returns
-    same-length-2
-    returns-2)
+scatter-spec = tie.close (tie.spec (λ c κs. search needs) put-beside-requires put-apart-requires (λ c. search needs) returns (λ c. search needs) returns-2)

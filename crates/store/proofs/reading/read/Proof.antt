@@ -1,13 +1,13 @@
--- `store::reading::read` meets its contract: refused, lost with the buffer as it was, or the mended data in the buffer. Assumes nothing.
+-- `store::reading::read` meets its contract: refused, clean with the data where they lie, lost with the buffer as it was, or mended. Assumes nothing.
 use mathlib.Core.Path.{_≡_, sym, _∙_}
 use borrow.Author.Needs.{needs}
 use native.Mathlib.Omega.{arith}
 use lib.ListN.{length}
 use Rattle.shape.specs.Shape.{words}
-use Rattle.block.proofs.Verdicts.{says-verdict}
 use Rattle.layout.proofs.Sites.{Located, located, locates-is}
-use Rattle.store.proofs.Calls.{read-refused, read-lost, read-data}
-use Rattle.store.proofs.Located.{inside, data-refused, list-refused}
+use Rattle.store.proofs.Calls.{read-refused, read-lost, read-data, read-clean}
+use Rattle.store.proofs.Located.{inside, first-small, data-refused, list-refused}
+use Rattle.store.proofs.Strides.{decided-there, clean-there, sums-there, data-there, data-gathered}
 use Rattle.store.proofs.reading.read.Statement.{statement}
 use Rattle.store.proofs.reading.read.Tie as tie
 
@@ -23,24 +23,9 @@ site c = located _ _ _ _ _ (sym (locates-is _ _ _ (c .before .before .before .lo
 fits : (c : tie.Else1) → length (start (c .before .before) .args .buffer .now) ≡ words (c .before .before .before .shape .given .0 .0)
 fits c = omega (arith, c .if1 .left, c .before .words .ensures)
 
--- from where the rows are gathered, and from where the copy is decided
-abbrev gathers : tie.After-gather → tie.Else1
-gathers c = c .before .before .before
-
-abbrev decided : tie.After-decide → tie.After-gather
-decided c = c .before .before
-
-locate-requires : tie.Need-locate-requires
-locate-requires c κs = search needs
-
-enum-known-number : tie.Need-enum-known-number
-enum-known-number c = search needs
-
-enum-known-shape : tie.Need-enum-known-shape
-enum-known-shape c = search needs
-
-words-requires : tie.Need-words-requires
-words-requires c κs = search needs
+-- from where the block is looked at
+abbrev exact : tie.After-look → tie.Else1
+exact c = c .before .before
 
 returns : tie.Need-returns
 returns c =
@@ -48,65 +33,85 @@ returns c =
     (list-refused _ _ _ (site (c .before .before)) _ (λ e. omega (arith, c .if1 .taken, c .before .words .ensures)))
     (λ z. omega arith)
 
-cast-gather : tie.Need-cast-gather
-cast-gather c = search needs
+cast-look : tie.Need-cast-look
+cast-look c = omega (arith, first-small _ _ _ (site (c .before .before)))
 
-gather-requires : tie.Need-gather-requires
-gather-requires c κs = inside _ _ _ (site (c .before .before .before .before))
-
-decide-requires : tie.Need-decide-requires
-decide-requires c κs = search needs
-
-enum-told : tie.Need-enum-told
-enum-told c = search needs
+cast-data-into : tie.Need-cast-data-into
+cast-data-into c = omega (arith, first-small _ _ _ (site (exact (c .before) .before .before)))
 
 returns-2 : tie.Need-returns-2
 returns-2 c =
-    let said = c .before .before in
-    let rows = decided said in
-    let exact = gathers rows in
-    read-lost _ (site (exact .before .before)) _ (rows .gather .ensures) _ (says-verdict _ _ (said .decide .ensures .says)) _ (fits exact) _
-    (c .enum-told .given .1)
+    let looked = c .before .before .before .before .before in
+    let p = site (exact looked .before .before) in
+    let there = looked .look .ensures in
+    read-clean _ p (clean-there _ _ _ _ (inside _ _ _ p) there (c .before .before .before .before .if2 .taken)) _ _ (fits (exact looked))
+    (data-there _ _ _ _ (inside _ _ _ p) there (c .before .before .data-into .ensures))
 
-data-into-requires : tie.Need-data-into-requires
-data-into-requires c κs = search needs
+gather-requires : tie.Need-gather-requires
+gather-requires c κs = inside _ _ _ (site (exact (c .before .before) .before .before))
 
 returns-3 : tie.Need-returns-3
 returns-3 c =
+    let said = c .before .before in
+    let gathered = said .before .before .before in
+    let looked = gathered .before .before .before in
+    let p = site (exact looked .before .before) in
+    let took = gathered .gather .ensures in
+    let sums = sums-there _ _ _ _ (inside _ _ _ p) (looked .look .ensures) (gathered .before .before .if2 .left) in
+    let d = decided-there _ _ _ _ sums took (said .decide .ensures) in
+    read-lost _ p _ took _ (d .0) _ (fits (exact looked)) _ (c .enum-told .given .1)
+
+whole-copy : tie.Need-slice-aggregate-data-into
+whole-copy c =
+    let said = c .before .before in
+    let gathered = said .before .before .before in
+    let looked = gathered .before .before .before in
+    let p = site (exact looked .before .before) in
+    let sums = sums-there _ _ _ _ (inside _ _ _ p) (looked .look .ensures) (gathered .before .before .if2 .left) in
+    sym (decided-there _ _ _ _ sums (gathered .gather .ensures) (said .decide .ensures) .2)
+
+returns-4 : tie.Need-returns-4
+returns-4 c =
     let found = c .before .before .before in
     let none = sym (locates-is _ _ _ (found .locate .ensures)) ∙ c .before .number .given .1 in
     let r = data-refused _ _ _ _ (length (found .before .before .before .args .buffer .now)) none in
     read-refused _ _ _ _ _ (r .0) (r .1)
 
-same-length : tie.Need-same-length
-same-length c = search needs
-
-returns-4 : tie.Need-returns-4
-returns-4 c =
+returns-5 : tie.Need-returns-5
+returns-5 c =
     let not-lost = c .before .before .before .before .before in
     let said = not-lost .before in
-    let rows = decided said in
-    let exact = gathers rows in
-    let mends = said .decide .ensures in
-    read-data _ (site (exact .before .before)) _ (rows .gather .ensures) _ (says-verdict _ _ (mends .says)) _ (fits exact) (not-lost .match2 .keys2) _ _
-    (mends .leaves)
-    (c .before .before .data-into .ensures)
+    let gathered = said .before .before .before in
+    let looked = gathered .before .before .before in
+    let p = site (exact looked .before .before) in
+    let took = gathered .gather .ensures in
+    let sums = sums-there _ _ _ _ (inside _ _ _ p) (looked .look .ensures) (gathered .before .before .if2 .left) in
+    let d = decided-there _ _ _ _ sums took (said .decide .ensures) in
+    read-data _ p _ took _ (d .0) _ (fits (exact looked)) (not-lost .match2 .keys2) _ _ (d .1)
+    (data-gathered _ (d .2) (c .before .before .data-into2 .ensures))
 
 pub read-spec : {M : Type 1} → statement M
 read-spec =
     tie.close
     (tie.spec
-    locate-requires
-    enum-known-number
-    enum-known-shape
-    words-requires
+    (λ c κs. search needs)
+    (λ c. search needs)
+    (λ c. search needs)
+    (λ c κs. search needs)
     returns
-    cast-gather
-    gather-requires
-    decide-requires
-    enum-told
+    cast-look
+    (λ c κs. search needs)
+    cast-data-into
+    (λ c κs. search needs)
+    (λ c. search needs)
     returns-2
-    data-into-requires
+    (λ c. search needs)
+    gather-requires
+    (λ c κs. search needs)
+    (λ c. search needs)
     returns-3
-    same-length
-    returns-4)
+    whole-copy
+    (λ c κs. search needs)
+    returns-4
+    (λ c. search needs)
+    returns-5)

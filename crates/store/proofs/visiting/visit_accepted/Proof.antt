@@ -1,11 +1,12 @@
 -- `store::visiting::visit_accepted` meets its contract: refused, valid where it lies, or mended. Assumes nothing.
 use mathlib.Core.Path.{refl, sym, _∙_}
+use native.Mathlib.Omega.{arith}
 use borrow.Author.Needs.{needs}
 use lib.ListN.{length}
 use Rattle.layout.proofs.Sites.{Located, located, refused, locates-is}
 use Rattle.store.proofs.Calls.{visit-refused, visit-found, visit-clean, accepts}
-use Rattle.store.proofs.Located.{inside}
-use Rattle.store.proofs.Strides.{clean-there}
+use Rattle.store.proofs.Located.{inside, first-small}
+use Rattle.store.proofs.Strides.{clean-there, sums-there}
 use Rattle.store.proofs.visiting.visit_accepted.Statement.{statement}
 use Rattle.store.proofs.visiting.visit_accepted.Tie as tie
 
@@ -17,58 +18,47 @@ site : (c : tie.After-known-told) → let a = start c .args in let found = c .be
     Located (length (a .image .now)) (a .layout) (a .block) (found .0) (found .1 .0)
 site c = located _ _ _ _ _ (sym (locates-is _ _ _ (c .before .before .before .locate .ensures)) ∙ c .before .shape .given .1)
 
-locate-requires : tie.Need-locate-requires
-locate-requires c κs = search needs
+-- from where the block is looked at
+abbrev sited : tie.After-look → tie.After-known-told
+sited c = c .before .before .before
 
-enum-told : tie.Need-enum-told
-enum-told c = search needs
-
-enum-known-shape : tie.Need-enum-known-shape
-enum-known-shape c = search needs
-
-valid-requires : tie.Need-valid-requires
-valid-requires c κs = search needs
-
-same-length : tie.Need-same-length
-same-length c = search needs
+cast-look : tie.Need-cast-look
+cast-look c = omega (arith, first-small _ _ _ (site (c .before)))
 
 returns : tie.Need-returns
 returns c =
-    let there = sym (c .before .valid .ensures) ∙ c .if2 .taken in
-    accepts (visit-clean _ (site (c .before .before .before .before)) (clean-there _ _ _ _ there (c .before .before .before .if1 .taken)))
-
-cast-mend : tie.Need-cast-mend
-cast-mend c = search needs
+    let p = site (sited (c .before)) in
+    accepts (visit-clean _ p (clean-there _ _ _ _ (inside _ _ _ p) (c .before .look .ensures) (c .if1 .taken)))
 
 mend-requires : tie.Need-mend-requires
-mend-requires c κs = inside _ _ _ (site (c .before .before))
+mend-requires c κs =
+    let looked = c .before .before .before in
+    let p = site (sited looked) in
+    (inside _ _ _ p, sums-there _ _ _ _ (inside _ _ _ p) (looked .look .ensures) (c .before .before .if1 .left))
 
 returns-2 : tie.Need-returns-2
 returns-2 c =
     let r = refused _ _ _ _ (sym (locates-is _ _ _ (c .before .before .locate .ensures)) ∙ c .enum-told .given .1) in
     accepts (visit-refused _ _ _ _ (r .0) (r .1))
 
-same-length-2 : tie.Need-same-length-2
-same-length-2 c = search needs
-
 returns-3 : tie.Need-returns-3
 returns-3 c =
-    let p = site (c .before .before .before .before .before) in
-    let mends = c .before .before .mend .ensures in
-    accepts (visit-found _ p _ refl _ (mends .0) _ (mends .1))
+    let mended = c .before .before in
+    let p = site (sited (mended .before .before .before .before)) in
+    accepts (visit-found _ p _ refl _ (mended .mend .ensures .0) _ (mended .mend .ensures .1))
 
 pub visit-accepted-spec : {M : Type 1} → statement M
 visit-accepted-spec =
     tie.close
     (tie.spec
-    locate-requires
-    enum-told
-    enum-known-shape
-    valid-requires
-    same-length
+    (λ c κs. search needs)
+    (λ c. search needs)
+    (λ c. search needs)
+    cast-look
+    (λ c κs. search needs)
+    (λ c. search needs)
     returns
-    cast-mend
     mend-requires
     returns-2
-    same-length-2
+    (λ c. search needs)
     returns-3)

@@ -1,0 +1,93 @@
+-- The sums as eight words hold each lane's sum and parity, and the lanes in which a word is set are those that are not valid. Assumes nothing.
+use Prim.Native.Nat.{ℕ, zero, suc, _+_, _*_, _^_, _≤_, _<_}
+use mathlib.Core.Bool.{Bool, not, _||_}
+use mathlib.Core.Path.{_≡_, refl, sym, ap, ap₂, _∙_}
+use mathlib.Core.List.{List}
+use native.Mathlib.Omega.{arith}
+use lib.Bits.{bitOr, or-lt}
+use lib.Dec.{eqb}
+use lib.ListN.{length, getD}
+use lib.Pow.{pow-pos}
+use Rattle.lane.specs.Bit.{bit}
+use Rattle.lane.specs.Lane.{sum, odd}
+use Rattle.lane.specs.Decision.{decision, decide}
+use Rattle.lane.proofs.Bits.{bit-or}
+use Rattle.lane.proofs.Exactly.{sum-lt}
+use Rattle.ground.specs.Choice.{ifZero}
+use Rattle.shape.specs.declared.Shape.{Shape}
+use Rattle.shape.specs.Shape.{before, rows}
+use Rattle.shape.proofs.Sizes.{before-small}
+use Rattle.block.specs.Words.{lane, word}
+use Rattle.block.specs.Sums.{lying, sumsOf, doubtful, Looks, sumIn, oddIn, decisionIn}
+use Rattle.block.specs.Inner.{anyOf, Kept}
+use Rattle.block.proofs.WordBits.{number-lt, number-bits, bit-number}
+use Rattle.block.proofs.Lanes.{bit-any}
+
+module _ (shape : Shape) (block : List ℕ) where
+  abbrev sums : List ℕ
+  sums = sumsOf shape block
+
+  pub digit-in : (k i : ℕ) → k < 7 → i < 32 → bit i (getD sums k 0) ≡ bit k (sum (before shape) (lane i block))
+  unfolding sumsOf
+  digit-in zero i h l = bit-number 32 i _ l
+  digit-in (suc zero) i h l = bit-number 32 i _ l
+  digit-in (suc (suc zero)) i h l = bit-number 32 i _ l
+  digit-in (suc (suc (suc zero))) i h l = bit-number 32 i _ l
+  digit-in (suc (suc (suc (suc zero)))) i h l = bit-number 32 i _ l
+  digit-in (suc (suc (suc (suc (suc zero))))) i h l = bit-number 32 i _ l
+  digit-in (suc (suc (suc (suc (suc (suc zero)))))) i h l = bit-number 32 i _ l
+  digit-in (suc (suc (suc (suc (suc (suc (suc k))))))) i h l = absurd (omega arith)
+
+  pub odd-in : (i : ℕ) → i < 32 → oddIn sums i ≡ odd (rows shape) (lane i block)
+  unfolding sumsOf
+  odd-in i l = bit-number 32 i (λ i. odd (rows shape) (lane i block)) l
+
+  pub sum-in : (i : ℕ) → i < 32 → sumIn sums i ≡ sum (before shape) (lane i block)
+  sum-in i l =
+      sym (number-bits 7 (sum (before shape) (lane i block)) _ (sum-lt 7 (before shape) (lane i block) (before-small shape)) (λ k h. sym (digit-in k i h l)))
+
+  -- what is decided by them is what is decided of the lane
+  pub decision-in : (i : ℕ) → i < 32 → decisionIn shape sums i ≡ decide (before shape) (lane i block)
+  decision-in i l = ap₂ (decision (before shape)) (odd-in i l) (sum-in i l)
+
+  pub word-lt : (k : ℕ) → k < 8 → getD sums k 0 < 2 ^ 32
+  unfolding sumsOf
+  word-lt zero h = number-lt 32 _
+  word-lt (suc zero) h = number-lt 32 _
+  word-lt (suc (suc zero)) h = number-lt 32 _
+  word-lt (suc (suc (suc zero))) h = number-lt 32 _
+  word-lt (suc (suc (suc (suc zero)))) h = number-lt 32 _
+  word-lt (suc (suc (suc (suc (suc zero))))) h = number-lt 32 _
+  word-lt (suc (suc (suc (suc (suc (suc zero)))))) h = number-lt 32 _
+  word-lt (suc (suc (suc (suc (suc (suc (suc zero))))))) h = number-lt 32 _
+  word-lt (suc (suc (suc (suc (suc (suc (suc (suc k)))))))) h = absurd (omega arith)
+
+  pub any-lt : (k : ℕ) → k ≤ 8 → anyOf k sums < 2 ^ 32
+  unfolding anyOf
+  any-lt zero h = pow-pos 32
+  any-lt (suc k) h = or-lt 32 (anyOf k sums) (getD sums k 0) (any-lt k (omega arith)) (word-lt k (omega arith))
+
+  pub some-doubt : anyOf 8 sums ≡ doubtful shape block
+  unfolding doubtful anyOf
+  some-doubt =
+      number-bits 32 (anyOf 8 sums) _ (any-lt 8 (omega arith))
+      (λ i l.
+      bit-or i (anyOf 7 sums) (getD sums 7 0)
+      ∙ ap₂ _||_ (bit-any i sums 7 ∙ ap (λ (s : ℕ). not (eqb s 0)) (sum-in i l)) (odd-in i l))
+
+-- eight words that are the sums, and kept, are what a look is to find
+pub looks : (shape : Shape) (words : List ℕ) (at s : ℕ) (lent after : List ℕ) (found : ℕ) → at + before shape * s < length words
+    → (eight : List ℕ) → eight ≡ sumsOf shape (lying shape words at s) → Kept eight found lent after → Looks shape words at s lent found after
+looks shape words at s lent after found there eight are k =
+    record {
+      there = λ h. (k .0 ∙ ap (anyOf 8) are ∙ some-doubt shape (lying shape words at s), k .1 ∙ ap (ifZero found lent) are);
+      missing = λ no. absurd (no there);
+    }
+
+pub misses : (shape : Shape) (words : List ℕ) (at s : ℕ) (lent : List ℕ) → length words ≤ at + before shape * s → Looks shape words at s lent 1 lent
+misses shape words at s lent short = record { there = λ h. absurd (omega arith); missing = λ no. (refl, refl) }
+
+-- what is found of the shape and the stride that are told
+pub as-told : {shape known : Shape} {words : List ℕ} {at s t : ℕ} {lent after : List ℕ} {found : ℕ} → shape ≡ known → s ≡ t
+    → Looks known words at t lent found after → Looks shape words at s lent found after
+as-told told stride l = rw (told, stride) l
