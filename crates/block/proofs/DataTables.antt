@@ -5,7 +5,7 @@ use mathlib.Core.Path.{_≡_, refl, ap, _∙_}
 use mathlib.Core.List.{List, [], _∷_}
 use native.Mathlib.Nat.{mul-le-mul-right}
 use native.Mathlib.Omega.{arith}
-use lib.ListN.{length, getD}
+use lib.ListN.{length, getD, take}
 use Rattle.lane.specs.Rows.{power?, rowsWhere}
 use Rattle.lane.proofs.Rows.{row-passes, row-there, rows-rise, data-row, data-fails}
 use Rattle.ground.specs.Stores.{stores}
@@ -49,6 +49,11 @@ data-one = rows-table One
 pub data-two : DataTable Two dataTwo
 unfolding rowsWhere power?
 data-two = rows-table Two
+
+-- the data rows of shape 1 are the first of shape 2's
+pub data-front : (shape : Shape) → DataTable shape (take (words shape) dataTwo)
+data-front One = data-one
+data-front Two = data-two
 
 -- ---- what the functions use of a table
 

@@ -103,8 +103,7 @@ pub fn data_into(shape: Shape, words: &[u32], at: u32, s: u32, buffer: &mut [u32
     if words.len() <= first + rows_before(shape) * step {
         return;
     }
-    match shape {
-        Shape::One => copy_rows(&DATA_ONE, words, first, step, buffer),
-        Shape::Two => copy_rows(&DATA_TWO, words, first, step, buffer),
-    }
+    // The data rows of shape 1 are the first of shape 2's: one loop serves both.
+    let rows = DATA_TWO;
+    copy_rows(&rows[..shape::words(shape)], words, first, step, buffer);
 }

@@ -1,15 +1,15 @@
--- `block::coding::data_into` meets its contract: its tables are those of the data rows of each shape. Assumes nothing.
+-- `block::coding::data_into` meets its contract: the front of its table is that of the shape's data rows. Assumes nothing.
 use Prim.Native.Nat.{ℕ, _+_, _*_, _≤_, _<_}
 use mathlib.Core.List.{List}
-use mathlib.Core.Path.{_≡_, refl, sym, ap, subst}
+use mathlib.Core.Path.{_≡_, refl, sym, ap}
 use native.Mathlib.Omega.{arith}
-use lib.ListN.{length}
+use lib.ListN.{length, take}
 use borrow.Author.Needs.{needs}
 use Rattle.shape.specs.declared.Shape.{Shape}
-use Rattle.shape.specs.Shape.{before}
-use Rattle.block.specs.Sums.{CopiesData}
+use Rattle.shape.specs.declared.Shape.the-variants.{One, Two}
+use Rattle.shape.specs.Shape.{before, words}
 use Rattle.block.proofs.Apart.{before-few}
-use Rattle.block.proofs.DataTables.{data-one, data-two, table-there, table-copied}
+use Rattle.block.proofs.DataTables.{dataTwo, data-front, table-there, table-copied}
 use Rattle.block.proofs.coding.data_into.Statement.{statement}
 use Rattle.block.proofs.coding.data_into.Tie as tie
 
@@ -23,52 +23,48 @@ few c =
     let r = ap (λ (b : ℕ). b * args .s) (c .rows-before .ensures) in
     omega (arith, r, before-few (args .s) 0 (args .shape))
 
--- where the shape is told, its last row is there
-room : (c : tie.Else1) (known : Shape)
-    → let args = start (c .before) .args in args .shape ≡ known → args .at + before known * args .s < length (args .words .now)
-room c known told =
+-- its last row is there
+room : (c : tie.Else1) → let args = start (c .before) .args in args .at + before (args .shape) * args .s < length (args .words .now)
+room c =
     let args = start (c .before) .args in
     let r = ap (λ (b : ℕ). b * args .s) (c .before .rows-before .ensures) in
-    subst (λ (shape : Shape). args .at + before shape * args .s < length (args .words .now)) told (omega (arith, r, c .if1 .left))
-
--- the promise for the shape that is told
-of-shape : {shape known : Shape} → shape ≡ known → (words : List ℕ) (at s : ℕ) (buffer copied : List ℕ)
-    → CopiesData known words at s buffer copied
-    → CopiesData shape words at s buffer copied
-of-shape told words at s buffer copied = subst (λ (shape : Shape). CopiesData shape words at s buffer copied) (sym told)
+    omega (arith, r, c .if1 .left)
 
 returns : tie.Need-returns
 returns c =
     let r = ap (λ (b : ℕ). b * start (c .before) .args .s) (c .before .rows-before .ensures) in
     record { there = λ h. absurd (omega (arith, r, c .if1 .taken)); missing = λ no. refl }
 
+few-words : (shape : Shape) → words shape ≤ 64
+few-words One = omega arith
+few-words Two = omega arith
+
+front-long : (shape : Shape) → words shape ≡ length (take (words shape) dataTwo)
+front-long One = refl
+front-long Two = refl
+
+-- the front that is lent
+front : (c : tie.After-words) → take (c .words .result) dataTwo ≡ take (words (start (c .before .before) .args .shape)) dataTwo
+front c = ap (λ (n : ℕ). take n dataTwo) (c .words .ensures)
+
+share : tie.Need-array-share-prefix-rows
+share c = omega (arith, c .words .ensures, few-words (start (c .before .before) .args .shape))
+
+aggregate : tie.Need-slice-aggregate-copy-rows
+aggregate c = rw (c .before .words .ensures) (front-long (start (c .before .before .before) .args .shape))
+
 copy-rows-requires : tie.Need-copy-rows-requires
 copy-rows-requires c κs =
-    let told = c .before .before in
-    let args = start (told .before .before .before) .args in
-    table-there data-one (args .words .now) (args .at) (args .s) (room (told .before .before) _ (told .enum-told .given .1)) _ refl
-
-copy-rows-requires-2 : tie.Need-copy-rows-requires-2
-copy-rows-requires-2 c κs =
-    let told = c .before .before in
-    let args = start (told .before .before .before) .args in
-    table-there data-two (args .words .now) (args .at) (args .s) (room (told .before .before) _ (told .enum-told2 .given .1)) _ refl
+    let counted = c .before .before in
+    let args = start (counted .before .before) .args in
+    table-there (data-front (args .shape)) (args .words .now) (args .at) (args .s) (room (counted .before)) _ (front counted)
 
 returns-2 : tie.Need-returns-2
 returns-2 c =
-    let told = c .before .before .before .before .before in
-    let args = start (told .before .before .before) .args in
-    of-shape (told .enum-told .given .1) (args .words .now) (args .at) (args .s) (args .buffer .now) _
-    (table-copied data-one (args .words .now) (args .at) (args .s) (room (told .before .before) _ (told .enum-told .given .1)) _ (args .buffer .now)
-    (c .before .before .copy-rows .ensures) refl)
-
-returns-3 : tie.Need-returns-3
-returns-3 c =
-    let told = c .before .before .before .before .before in
-    let args = start (told .before .before .before) .args in
-    of-shape (told .enum-told2 .given .1) (args .words .now) (args .at) (args .s) (args .buffer .now) _
-    (table-copied data-two (args .words .now) (args .at) (args .s) (room (told .before .before) _ (told .enum-told2 .given .1)) _ (args .buffer .now)
-    (c .before .before .copy-rows2 .ensures) refl)
+    let counted = c .before .before .before .before .before in
+    let args = start (counted .before .before) .args in
+    table-copied (data-front (args .shape)) (args .words .now) (args .at) (args .s) (room (counted .before)) _ (args .buffer .now)
+    (c .before .before .copy-rows .ensures) (front counted)
 
 pub data-into-spec : {M : Type 1} → statement M
 data-into-spec =
@@ -78,13 +74,9 @@ data-into-spec =
     (λ c. omega (arith, few c))
     (λ c. omega (arith, few c))
     returns
-    (λ c. search needs)
-    (λ c. search needs)
+    (λ c κs. search needs)
+    share
+    aggregate
     copy-rows-requires
     (λ c. search needs)
-    (λ c. search needs)
-    copy-rows-requires-2
-    (λ c. search needs)
-    returns-2
-    (λ c. search needs)
-    returns-3)
+    returns-2)
