@@ -12,11 +12,11 @@ use Rattle.lane.proofs.Linear.{sum-same, count-same}
 use Rattle.ground.proofs.Stores.{stores-agree}
 use Rattle.shape.specs.declared.Shape.{Shape}
 use Rattle.shape.specs.Shape.{before, rows, words}
-use Rattle.block.specs.Words.{row, lane, word}
+use Rattle.sums.specs.Words.{row, lane, word}
 use Rattle.block.specs.Block.{SameRows, dataInto}
-use Rattle.block.specs.Sums.{sumsOf, doubtful}
-use Rattle.block.proofs.WordBits.{number-same}
-use Rattle.block.proofs.RowSums.{same-eight}
+use Rattle.sums.specs.Sums.{sumsOf, doubtful}
+use Rattle.sums.proofs.WordBits.{number-same}
+use Rattle.sums.proofs.RowSums.{same-eight}
 use Rattle.block.proofs.Data.{dataRow, entry-row}
 
 module _ (shape : Shape) (a b : List ℕ) (same : SameRows shape a b) where

@@ -21,11 +21,11 @@ use Rattle.shape.specs.declared.Shape.{Shape}
 use Rattle.shape.specs.Shape.{before, rows}
 use Rattle.ground.specs.Totals.{total}
 use Rattle.ground.specs.Choice.{ifZero}
-use Rattle.block.specs.Words.{lane, word}
+use Rattle.sums.specs.Words.{lane, word}
 use Rattle.ground.proofs.Lists.{getD-listOf, length-listOf, list-is}
 use Rattle.ground.proofs.Totals.{total-same, total-zero}
 use Rattle.block.specs.Block.{ValidBlock, Near, SameRows, Fitting, lanesLost, mendedLanes, mendedBlock, bitsChanged}
-use Rattle.block.proofs.WordBits.{bit-number, number-lt, number-same}
+use Rattle.sums.proofs.WordBits.{bit-number, number-lt, number-same}
 use Rattle.block.proofs.Flips.{word-none}
 
 -- ---- counts over the lanes

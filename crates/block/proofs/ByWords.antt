@@ -16,13 +16,14 @@ use Rattle.shape.specs.Shape.{before, rows}
 use Rattle.shape.proofs.Sizes.{rows-fit}
 use Rattle.ground.specs.Totals.{total}
 use Rattle.ground.proofs.Bools.{both}
-use Rattle.block.specs.Words.{row}
+use Rattle.sums.specs.Words.{row}
 use Rattle.block.specs.Block.{dataBlock, validBlock, mendedBlock}
 use Rattle.block.specs.Verdict.{verdictOf}
-use Rattle.block.specs.Sums.{sumsOf}
-use Rattle.block.specs.Inner.{xorRows, anyOf, lostLanes, flippedIn, xorAll, withChecks}
-use Rattle.block.proofs.RowSums.{sums-are}
-use Rattle.block.proofs.Doubt.{word-lt, any-lt}
+use Rattle.sums.specs.Sums.{sumsOf}
+use Rattle.sums.specs.Inner.{xorRows, anyOf}
+use Rattle.block.specs.Inner.{lostLanes, flippedIn, xorAll, withChecks}
+use Rattle.sums.proofs.RowSums.{sums-are}
+use Rattle.sums.proofs.Doubt.{word-lt, any-lt}
 use Rattle.block.proofs.Lanes.{ones-total}
 use Rattle.block.proofs.Judged.{lost-lt, lost-decides, mended-decides}
 use Rattle.block.proofs.Decided.{decided}

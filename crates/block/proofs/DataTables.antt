@@ -13,12 +13,13 @@ use Rattle.ground.proofs.Stores.{stores-agree}
 use Rattle.shape.specs.declared.Shape.{Shape}
 use Rattle.shape.specs.declared.Shape.the-variants.{One, Two}
 use Rattle.shape.specs.Shape.{before, digits, dataRowsOf, words}
-use Rattle.block.specs.Words.{row}
+use Rattle.sums.specs.Words.{row}
 use Rattle.block.specs.Block.{blank, dataBlock, dataInto}
-use Rattle.block.specs.Sums.{lying, CopiesData}
+use Rattle.sums.specs.Sums.{lying}
+use Rattle.block.specs.Sums.{CopiesData}
 use Rattle.block.specs.DataTables.{DataTable}
 use Rattle.block.proofs.Data.{before-digits, data-count}
-use Rattle.block.proofs.Groups.{placed-lies}
+use Rattle.sums.proofs.Groups.{placed-lies}
 
 -- the tables of the code, which it does not name to a proof: each proof that cites one shows that the code's own table is the same
 abbrev pub dataOne : List ℕ

@@ -20,12 +20,13 @@ use Rattle.shape.specs.declared.Shape.{Shape}
 use Rattle.shape.specs.Shape.{before, rows}
 use Rattle.block.specs.declared.Verdict.{Verdict}
 use Rattle.block.specs.declared.Verdict.the-variants.{Clean}
-use Rattle.block.specs.Words.{lane}
+use Rattle.sums.specs.Words.{lane}
 use Rattle.block.specs.Block.{lanesLost, mendedLanes, mendedBlock, bitsChanged}
 use Rattle.block.specs.Verdict.{Said, saidOf, saidBy, toSay, verdictOf}
-use Rattle.block.specs.Sums.{sumsOf, doubtful, lostIn, oddCount, changedIn, Decides}
-use Rattle.block.proofs.WordBits.{number-same, bit-number}
-use Rattle.block.proofs.Doubt.{odd-in, decision-in}
+use Rattle.sums.specs.Sums.{sumsOf, doubtful}
+use Rattle.block.specs.Sums.{decisionIn, lostIn, oddCount, changedIn, Decides}
+use Rattle.sums.proofs.WordBits.{number-same, bit-number}
+use Rattle.sums.proofs.Doubt.{odd-in, sum-in}
 use Rattle.block.proofs.Blocks.{AllKept, none-counted, kept-none, none-kept, mended-kept, unchanged-lanes, changed-odd}
 use Rattle.block.proofs.Verdicts.{says-verdict}
 
@@ -38,15 +39,19 @@ module _ (shape : Shape) (block : List ℕ) where
   abbrev sums : List ℕ
   sums = sumsOf shape block
 
+  -- what is decided by them is what is decided of the lane
+  decision-in : (i : ℕ) → i < 32 → decisionIn shape sums i ≡ decide (before shape) (lane i block)
+  decision-in i l = ap₂ (decision (before shape)) (odd-in shape block i l) (sum-in shape block i l)
+
   lost-same : lostIn shape sums ≡ lanesLost shape block
   unfolding lostIn lanesLost
-  lost-same = total-same 32 _ _ (λ i h. ap (λ (d : Decision). pick (lost? d) 1) (decision-in shape block i h))
+  lost-same = total-same 32 _ _ (λ i h. ap (λ (d : Decision). pick (lost? d) 1) (decision-in i h))
 
   changed-same : changedIn shape sums block ≡ mendedLanes shape block
   unfolding changedIn mendedLanes
   changed-same =
       listOf-same (length block) _ _
-      (λ j l. ap (bitXor (getD block j 0)) (number-same 32 _ _ (λ i h. ap (λ (d : Decision). changes d (suc j)) (decision-in shape block i h))))
+      (λ j l. ap (bitXor (getD block j 0)) (number-same 32 _ _ (λ i h. ap (λ (d : Decision). changes d (suc j)) (decision-in i h))))
 
   mended-same : ifZero (lostIn shape sums) (changedIn shape sums block) block ≡ mendedBlock shape block
   unfolding mendedBlock

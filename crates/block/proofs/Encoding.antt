@@ -23,15 +23,16 @@ use Rattle.lane.proofs.Exactly.{sum-lt, named-off, named-on, xorDigits, summed-
 use Rattle.shape.specs.declared.Shape.{Shape}
 use Rattle.shape.specs.declared.Shape.the-variants.{One, Two}
 use Rattle.shape.specs.Shape.{before, rows, digits}
-use Rattle.block.specs.Words.{lane, word}
+use Rattle.sums.specs.Words.{lane, word}
 use Rattle.ground.proofs.Stores.{length-stores, stores-hit, stores-miss}
 use Rattle.block.specs.Block.{dataBlock, validBlock}
-use Rattle.block.specs.Sums.{lying, sumsOf}
-use Rattle.block.specs.Inner.{anyOf, Kept, xorAll, withChecks}
-use Rattle.block.proofs.WordBits.{number-bits, number-same}
+use Rattle.sums.specs.Sums.{lying, sumsOf, Looks}
+use Rattle.sums.specs.Inner.{anyOf, Kept}
+use Rattle.block.specs.Inner.{xorAll, withChecks}
+use Rattle.sums.proofs.WordBits.{number-bits, number-same}
 use Rattle.ground.proofs.Lists.{list-is, zeros-at}
-use Rattle.block.proofs.RowSums.{same-eight}
-use Rattle.block.proofs.Doubt.{digit-in, odd-in, word-lt}
+use Rattle.sums.proofs.RowSums.{same-eight}
+use Rattle.sums.proofs.Doubt.{digit-in, odd-in, word-lt, some-doubt}
 use Rattle.shape.proofs.Sizes.{before-lt}
 use Rattle.block.proofs.Data.{before-digits, length-data, data-miss, data-lt}
 
@@ -291,9 +292,10 @@ eight block = refl
 
 -- the sums of shape 2, kept in zeros, of a data block of either shape are its own
 pub own-sums : (shape : Shape) (list : List ℕ) {block after : List ℕ} {found : ℕ} → block ≡ dataBlock shape list
-    → Kept (sumsOf Two (lying Two block 0 1)) found (replicate 8 0) after
-    → after ≡ sumsOf shape (dataBlock shape list)
-own-sums shape list {block} {after} {found} e k =
-    kept-in-zeros _ after found (eight (lying Two block 0 1)) k
-    ∙ ap (sumsOf Two) (lies-whole block (ap length e ∙ length-data shape list) ∙ e)
+    → Looks Two block 0 1 (replicate 8 0) found after → after ≡ sumsOf shape (dataBlock shape list)
+own-sums shape list {block} {after} {found} e l =
+    let long : length block ≡ 72 = ap length e ∙ length-data shape list in
+    let k = l .there (omega (arith, long)) in
+    kept-in-zeros _ after found (eight (lying Two block 0 1)) (k .0 ∙ sym (some-doubt Two (lying Two block 0 1)), k .1)
+    ∙ ap (sumsOf Two) (lies-whole block long ∙ e)
     ∙ sums-of-two shape list

@@ -18,10 +18,10 @@ use Rattle.lane.specs.Bit.{set?, bit, _⊕_}
 use Rattle.lane.proofs.Bits.{bit-zero, bit-xor, bit-and, bit-ext-below, xor-assoc, ⊕-zero}
 use Rattle.lane.proofs.Rows.{power-digit, power-apart}
 use Rattle.ground.proofs.Lists.{length-listOf, getD-listOf, list-is, listOf-same}
-use Rattle.block.specs.Words.{word}
-use Rattle.block.specs.Sums.{sumIn}
+use Rattle.sums.specs.Words.{word}
+use Rattle.sums.specs.Sums.{sumIn}
 use Rattle.block.specs.Inner.{rowNamed, flippedIn}
-use Rattle.block.proofs.WordBits.{number-lt, number-bits, number-same, bit-number}
+use Rattle.sums.proofs.WordBits.{number-lt, number-bits, number-same, bit-number}
 
 -- ---- the lowest set lane
 

@@ -22,13 +22,16 @@ use Rattle.shape.specs.declared.Shape.{Shape}
 use Rattle.shape.specs.Shape.{before}
 use Rattle.shape.proofs.Sizes.{before-small}
 use Rattle.block.specs.declared.Verdict.the-variants.{Clean, Mended, Lost}
-use Rattle.block.specs.Words.{word}
+use Rattle.sums.specs.Words.{word}
 use Rattle.block.specs.Verdict.{saidOf, saidBy}
-use Rattle.block.specs.Sums.{sumIn, oddIn, decisionIn, lostIn, oddCount, changedIn, Decides}
-use Rattle.block.specs.Inner.{anyOf, aboveOf, lostLanes, rowNamed, flippedIn}
-use Rattle.block.proofs.WordBits.{number-same}
+use Rattle.sums.specs.Sums.{sumIn, oddIn}
+use Rattle.block.specs.Sums.{decisionIn, lostIn, oddCount, changedIn, Decides}
+use Rattle.sums.specs.Inner.{anyOf}
+use Rattle.block.specs.Inner.{aboveOf, lostLanes, rowNamed, flippedIn}
+use Rattle.sums.proofs.WordBits.{number-same}
+use Rattle.sums.proofs.Doubt.{bit-any}
 use Rattle.block.proofs.Flips.{word-none}
-use Rattle.block.proofs.Lanes.{bit-any, bit-above, lost-test, ones-total}
+use Rattle.block.proofs.Lanes.{bit-above, lost-test, ones-total}
 use Rattle.block.proofs.Blocks.{counted-none, none-counted}
 
 -- a word with no ones is 0

@@ -15,27 +15,15 @@ use Rattle.lane.specs.Bit.{set?, bit, pick}
 use Rattle.lane.specs.Decision.{flipped, lost, decision, lost?}
 use Rattle.lane.proofs.Bits.{bit-zero, bit-and, bit-or, bit-shift}
 use Rattle.ground.specs.Totals.{total}
-use Rattle.block.specs.Words.{number}
-use Rattle.block.specs.Inner.{anyOf, aboveOf}
-use Rattle.block.proofs.WordBits.{number-lt}
+use Rattle.sums.specs.Words.{number}
+use Rattle.block.specs.Inner.{aboveOf}
+use Rattle.sums.proofs.WordBits.{number-lt}
 
--- ---- the lanes with a sum, and those with a sum above a number
+-- ---- the lanes with a sum above a number
 
 module _ (i : ℕ) (digits : List ℕ) where
   abbrev low : ℕ → ℕ
   low k = number k (λ j. bit i (getD digits j 0))
-
-  or-zero : (n k : ℕ) (b : Bool) → not (eqb n 0) || b ≡ not (eqb (n + pick b (2 ^ k)) 0)
-  or-zero zero k true = sym (ap not (ne-eqb (0 + 2 ^ k) 0 (λ e. let p = pow-pos k in omega arith)))
-  or-zero zero k false = refl
-  or-zero (suc n) k b = rw (eqb·suc-zero n, ne-eqb (suc n + pick b (2 ^ k)) 0 (λ e. omega arith))
-
-  pub bit-any : (k : ℕ) → bit i (anyOf k digits) ≡ not (eqb (low k) 0)
-  unfolding anyOf number
-  bit-any zero = bit-zero i
-  bit-any (suc k) =
-      bit-or i (anyOf k digits) (getD digits k 0) ∙ ap (λ (b : Bool). b || bit i (getD digits k 0)) (bit-any k)
-      ∙ or-zero (low k) k (bit i (getD digits k 0))
 
   -- comparing numbers of one digit more
   compare-more : (w x y : ℕ) (a b : Bool) → x < w → y < w → cond a (ltb x y && b) (ltb x y || b) ≡ ltb (x + pick a w) (y + pick b w)

@@ -1,12 +1,6 @@
-pub mod WordBits
 pub mod Listed
-pub mod RowSums
-pub mod Groups
-pub mod Apart
-pub mod Beside
 pub mod Flips
 pub mod Lanes
-pub mod Doubt
 pub mod Blocks
 pub mod Judged
 pub mod Data

@@ -19,7 +19,7 @@ use Rattle.shape.specs.declared.Shape.{Shape}
 use Rattle.block.specs.declared.Verdict.{Verdict}
 use Rattle.block.specs.declared.Verdict.the-variants.{Clean, Mended, Lost}
 use Rattle.shape.specs.Shape.{before, rows}
-use Rattle.block.specs.Words.{lane}
+use Rattle.sums.specs.Words.{lane}
 use Rattle.block.specs.Block.{lanesLost, bitsChanged, mendedBlock}
 use Rattle.block.specs.Verdict.{verdictNumber, verdictCount, verdict, verdictOf}
 use Rattle.block.proofs.Verdict.{the-type}

@@ -18,9 +18,9 @@ use Rattle.lane.proofs.Exactly.{encoded-valid, encoded-data, encoded-only}
 use Rattle.lane.proofs.Mended.{valid-empty}
 use Rattle.shape.specs.declared.Shape.{Shape}
 use Rattle.shape.specs.Shape.{before, rows, digits, words}
-use Rattle.block.specs.Words.{row, lane, word}
+use Rattle.sums.specs.Words.{row, lane, word}
 use Rattle.block.specs.Block.{ValidBlock, dataBlock, validBlock, dataOf, SameRows, Fitting}
-use Rattle.block.proofs.WordBits.{row-at, bit-number, number-lt, number-bits}
+use Rattle.sums.proofs.WordBits.{row-at, bit-number, number-lt, number-bits}
 use Rattle.ground.proofs.Lists.{getD-listOf, length-listOf, list-is}
 use Rattle.shape.proofs.Sizes.{before-lt}
 use Rattle.block.proofs.Data.{before-digits, dataRow, entry-row, row-entry, data-hit, data-lt}

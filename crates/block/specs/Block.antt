@@ -17,7 +17,7 @@ use Rattle.shape.specs.Shape.{before, rows, digits, dataRowsOf, words, mostRows
 use Rattle.ground.specs.Totals.{total}
 use Rattle.ground.specs.Stores.{stores}
 use Rattle.ground.specs.Lists.{listOf}
-use Rattle.block.specs.Words.{row, lane, word}
+use Rattle.sums.specs.Words.{row, lane, word}
 
 abbrev pub ValidBlock : Shape → List ℕ → Type 0
 ValidBlock shape block = (i : ℕ) → i < 32 → Valid (before shape) (lane i block)

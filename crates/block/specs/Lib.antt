@@ -1,4 +1,3 @@
-pub mod Words
 pub mod Block
 pub mod Verdict
 pub mod Sums

@@ -8,14 +8,13 @@ ghost use Rattle.shape.specs.Shape.{mostRows};
 ghost use Rattle.block.specs.Block.{blank, Encodes};
 ghost use Rattle.block.specs.Sums.{CopiesData};
 ghost use Rattle.block.specs.Inner.{listed?, rising?, xorAll, withChecks};
-use super::sums::DIGITS;
-use super::sums::SUM_WORDS;
-use super::sums::sums_beside;
 use super::tables::*;
 use ground::least;
 use shape::MOST_ROWS;
 use shape::Shape;
 use shape::rows_before;
+use sums::DIGITS;
+use sums::SUM_WORDS;
 
 // The data words in the listed rows, in order.
 fn spread(rows: &[u8], list: &[u32], block: &mut [u32; MOST_ROWS])
@@ -69,7 +68,7 @@ pub fn encode(shape: Shape, list: &[u32]) -> [u32; MOST_ROWS]
     }
     // Rows past the last of shape 1 are zero and add nothing: the sums of shape 2 serve both.
     let mut sums = [0u32; SUM_WORDS];
-    sums_beside(&block, 0, &mut sums);
+    sums::beside(&block, 0, &mut sums);
     let last = sums[DIGITS] ^ xor_all(&sums);
     set_checks(&mut block, &sums);
     let at = rows_before(shape);

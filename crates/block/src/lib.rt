@@ -1,14 +1,11 @@
 // The code on one block, 32 lanes at once.
 mod coding;
 mod mending;
-mod sums;
 mod tables;
 
 pub use coding::data_into;
 pub use coding::encode;
 pub use mending::decide;
-pub use sums::SUM_WORDS;
-pub use sums::look;
 
 pub enum Verdict {
     Clean,

@@ -5,14 +5,16 @@ ghost use Prim.Native.Nat.{ℕ, _≤_, _<_};
 ghost use lib.ListN.{getD};
 ghost use Rattle.lane.specs.Bit.{bit};
 ghost use Rattle.shape.specs.Shape.{mostRows};
-ghost use Rattle.block.specs.Sums.{sumIn, Decides};
-ghost use Rattle.block.specs.Inner.{anyOf, aboveOf, rowNamed, flippedIn};
+ghost use Rattle.sums.specs.Sums.{sumIn};
+ghost use Rattle.block.specs.Sums.{Decides};
+ghost use Rattle.sums.specs.Inner.{anyOf};
+ghost use Rattle.block.specs.Inner.{aboveOf, rowNamed, flippedIn};
 use super::Verdict;
-use super::sums::DIGITS;
-use super::sums::SUM_WORDS;
 use shape::MOST_ROWS;
 use shape::Shape;
 use shape::rows_before;
+use sums::DIGITS;
+use sums::SUM_WORDS;
 
 // The lanes whose sum is not 0.
 fn any(sums: &[u32; SUM_WORDS]) -> u32

@@ -15,10 +15,11 @@ use Rattle.shape.specs.declared.Shape.{Shape}
 use Rattle.block.specs.declared.Verdict.{Verdict}
 use Rattle.block.specs.declared.Verdict.the-variants.{Mended, Lost}
 use Rattle.shape.specs.Shape.{before}
-use Rattle.block.specs.Words.{number}
+use Rattle.sums.specs.Words.{number}
 use Rattle.block.specs.Block.{dataBlock, validBlock, mendedBlock}
 use Rattle.block.specs.Verdict.{Said, toSay, saidWords, verdictOf, verdictWords}
-use Rattle.block.specs.Inner.{xorRows, anyOf, aboveOf, lostLanes, flippedIn, xorAll, withChecks}
+use Rattle.sums.specs.Inner.{xorRows, anyOf}
+use Rattle.block.specs.Inner.{aboveOf, lostLanes, flippedIn, xorAll, withChecks}
 use Rattle.block.proofs.Verdicts.{verdict-says}
 use Rattle.block.proofs.ByWords.{fit?, bits, rowSums, written, lost-by-words, mended-by-words}
 use Rattle.layout.specs.Layout.{shapeNumbered}

@@ -13,7 +13,7 @@ use Rattle.lane.proofs.Distance.{empty}
 use Rattle.lane.proofs.Linear.{count-same}
 use Rattle.shape.specs.declared.Shape.{Shape}
 use Rattle.shape.specs.Shape.{before, rows, words}
-use Rattle.block.specs.Words.{lane}
+use Rattle.sums.specs.Words.{lane}
 use Rattle.block.specs.Block.{lanesLost, mendedBlock, validBlock, dataOf, Near, SameRows, Fitting}
 use Rattle.block.proofs.Blocks.{near-none, near-rows, mended-fits}
 use Rattle.shape.proofs.Sizes.{rows-fit}

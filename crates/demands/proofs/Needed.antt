@@ -13,7 +13,7 @@ use Rattle.lane.specs.Lane.{sum, count}
 use Rattle.lane.specs.Decision.{decision}
 use Rattle.lane.specs.Encoded.{named}
 use Rattle.lane.specs.Rows.{power?, rowsWhere}
-use Rattle.block.specs.Words.{number}
+use Rattle.sums.specs.Words.{number}
 use Rattle.block.specs.Block.{dataBlock, validBlock, dataOf, lanesLost, mendedLanes, mendedBlock, bitsChanged}
 use Rattle.block.specs.Verdict.{verdictOf}
 use Rattle.block.proofs.ByWords.{fit?}

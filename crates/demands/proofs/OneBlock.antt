@@ -11,7 +11,7 @@ use Rattle.lane.proofs.Decided.{decided}
 use Rattle.lane.proofs.Mended.{valid-near, mended-valid, mended-near}
 use Rattle.shape.specs.declared.Shape.{Shape}
 use Rattle.shape.specs.Shape.{before, rows}
-use Rattle.block.specs.Words.{lane}
+use Rattle.sums.specs.Words.{lane}
 use Rattle.block.specs.Block.{ValidBlock, lanesLost, bitsChanged, mendedBlock, Fitting, Near, SameRows}
 use Rattle.block.specs.Verdict.{verdictNumber, verdictCount, verdict, verdictOf}
 use Rattle.block.proofs.Blocks.{kept-valid, kept-near, near-none, near-rows, mended-fits}

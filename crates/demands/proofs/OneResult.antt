@@ -11,10 +11,12 @@ use Rattle.ground.specs.Choice.{ifZero}
 use Rattle.ground.specs.Least.{IsLeast}
 use Rattle.ground.proofs.Same.{same}
 use Rattle.shape.specs.declared.Shape.{Shape}
+use Rattle.shape.specs.declared.Shape.the-variants.{Two}
 use Rattle.shape.specs.Shape.{before, CountsBefore, CountsRows, CountsWords}
 use Rattle.block.specs.declared.Verdict.{Verdict}
 use Rattle.block.specs.Block.{Encodes}
-use Rattle.block.specs.Sums.{lying, sumsOf, Looks, Decides, CopiesData}
+use Rattle.sums.specs.Sums.{lying, sumsOf, Looks}
+use Rattle.block.specs.Sums.{Decides, CopiesData}
 use Rattle.block.proofs.Verdicts.{said-told}
 use Rattle.layout.specs.declared.Layout.{Layout}
 use Rattle.layout.specs.declared.Site.{Site}
@@ -58,10 +60,7 @@ one-rows shape p q = same p q
 pub one-words : (shape : Shape) {a b : ℕ} → CountsWords shape a → CountsWords shape b → a ≡ b
 one-words shape p q = same p q
 
--- ---- block
-
-pub one-encode : (shape : Shape) (list : List ℕ) {a b : List ℕ} → Encodes shape list a → Encodes shape list b → a ≡ b
-one-encode shape list p q = same p q
+-- ---- sums
 
 pub one-look : (shape : Shape) (list : List ℕ) (at s : ℕ) (lent : List ℕ) {m n : ℕ} {a b : List ℕ} → Looks shape list at s lent m a
     → Looks shape list at s lent n b → (m ≡ n) × (a ≡ b)
@@ -74,6 +73,15 @@ one-look shape list at s lent p q =
     let no : at + before shape * s < length list → ⊥ = λ l. omega arith in
     (same (p .missing no .0) (q .missing no .0), same (p .missing no .1) (q .missing no .1)))
     (split-below (at + before shape * s) (length list))
+
+pub one-beside : (list : List ℕ) (at : ℕ) (lent : List ℕ) {m n : ℕ} {a b : List ℕ} → Looks Two list at 1 lent m a → Looks Two list at 1 lent n b
+    → (m ≡ n) × (a ≡ b)
+one-beside list at lent p q = one-look Two list at 1 lent p q
+
+-- ---- block
+
+pub one-encode : (shape : Shape) (list : List ℕ) {a b : List ℕ} → Encodes shape list a → Encodes shape list b → a ≡ b
+one-encode shape list p q = same p q
 
 pub one-decide : (shape : Shape) (block sums : List ℕ) {v w : Verdict} {a b : List ℕ} → Decides shape block sums v a → Decides shape block sums w b
     → (v ≡ w) × (a ≡ b)

@@ -12,7 +12,7 @@ use Rattle.lane.proofs.Linear.{count-same}
 use Rattle.lane.proofs.Mended.{count-empty, ⊕-self}
 use Rattle.shape.specs.declared.Shape.{Shape}
 use Rattle.shape.specs.Shape.{before, rows, words}
-use Rattle.block.specs.Words.{row, lane}
+use Rattle.sums.specs.Words.{row, lane}
 use Rattle.block.specs.Block.{dataOf, SameRows}
 use Rattle.block.proofs.Data.{dataRow, entry-row}
 

@@ -11,7 +11,7 @@ use Rattle.lane.specs.Bit.{pick}
 use Rattle.lane.specs.Lane.{Lane, Valid, apart}
 use Rattle.shape.specs.declared.Shape.{Shape}
 use Rattle.shape.specs.Shape.{before}
-use Rattle.block.specs.Words.{lane}
+use Rattle.sums.specs.Words.{lane}
 use Rattle.block.specs.Block.{ValidBlock, dataOf, bitsChanged, Near, SameRows, Fitting}
 use Rattle.layout.specs.declared.Layout.{Layout}
 use Rattle.layout.specs.Layout.{shapeOf}

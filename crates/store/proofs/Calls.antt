@@ -9,7 +9,7 @@ use Rattle.shape.specs.declared.Shape.{Shape}
 use Rattle.block.specs.declared.Verdict.{Verdict}
 use Rattle.block.specs.declared.Verdict.the-variants.{Clean, Lost}
 use Rattle.shape.specs.Shape.{rows, words, dataRowsOf}
-use Rattle.block.specs.Words.{row}
+use Rattle.sums.specs.Words.{row}
 use Rattle.ground.proofs.Stores.{length-stores, stores-hit}
 use Rattle.block.specs.Block.{blank, validBlock, mendedBlock, dataInto, dataOf}
 use Rattle.block.specs.Verdict.{verdictOf}

@@ -8,7 +8,7 @@ use lib.Pow.{pow-pos}
 use Rattle.ground.proofs.Lists.{zeros-at, list-is}
 use Rattle.shape.specs.declared.Shape.{Shape}
 use Rattle.shape.specs.Shape.{before, rows, words}
-use Rattle.block.specs.Words.{row}
+use Rattle.sums.specs.Words.{row}
 use Rattle.block.specs.Block.{validBlock, dataOf, SameRows, Fitting}
 use Rattle.block.proofs.Data.{dataRow, entry-row}
 use Rattle.block.proofs.ValidBlocks.{valid-only, zero-valid}

@@ -14,11 +14,11 @@ use Rattle.lane.proofs.Decided.{decided}
 use Rattle.lane.proofs.Rows.{split-below}
 use Rattle.shape.specs.declared.Shape.{Shape}
 use Rattle.shape.specs.Shape.{before, rows}
-use Rattle.block.specs.Words.{lane}
+use Rattle.sums.specs.Words.{lane}
 use Rattle.ground.specs.Choice.{ifZero}
 use Rattle.block.specs.Block.{lanesLost, mendedLanes, mendedBlock}
 use Rattle.ground.proofs.Lists.{getD-listOf}
-use Rattle.block.proofs.WordBits.{number-same}
+use Rattle.sums.proofs.WordBits.{number-same}
 use Rattle.block.proofs.Flips.{word-none}
 use Rattle.block.proofs.Blocks.{length-lanes}
 

@@ -13,7 +13,8 @@ use Rattle.ground.proofs.Choices.{refused-kept}
 use Rattle.ground.proofs.Lists.{getD-listOf}
 use Rattle.block.specs.Block.{blank, mendedBlock, SameRows, dataInto}
 use Rattle.block.specs.Verdict.{verdictOf}
-use Rattle.block.specs.Sums.{lying, sumsOf, Looks, CopiesData, Decides}
+use Rattle.sums.specs.Sums.{lying, sumsOf, Looks}
+use Rattle.block.specs.Sums.{CopiesData, Decides}
 use Rattle.shape.proofs.Sizes.{rows-fit, before-lt}
 use Rattle.block.proofs.Blocks.{length-mended}
 use Rattle.block.proofs.Decided.{decided, clean-verdict}

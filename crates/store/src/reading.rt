@@ -2,11 +2,11 @@
 ghost use Rattle.store.specs.Read.{Reads};
 use super::Answer;
 use super::copies::gather;
-use block::SUM_WORDS;
 use block::Verdict;
 use layout::Layout;
 use layout::Site;
 use shape::MOST_ROWS;
+use sums::SUM_WORDS;
 
 pub fn read(image: &[u32], layout: Layout, block: u32, buffer: &mut [u32]) -> Answer
     ensures { λ r. ⌜ Reads (now (image .entry)) layout block (now (buffer .entry)) r (now (image .exit)) (now (buffer .exit)) ⌝ }
@@ -19,7 +19,7 @@ pub fn read(image: &[u32], layout: Layout, block: u32, buffer: &mut [u32]) -> An
             }
             let s = layout.s;
             let mut sums = [0u32; SUM_WORDS];
-            if block::look(shape, image, at as u32, s, &mut sums) == 0 {
+            if sums::look(shape, image, at as u32, s, &mut sums) == 0 {
                 block::data_into(shape, image, at as u32, s, buffer);
                 return Answer::Found(Verdict::Clean);
             }

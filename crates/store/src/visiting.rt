@@ -4,18 +4,18 @@ ghost use lib.ListN.{length};
 ghost use Rattle.shape.specs.Shape.{rows};
 ghost use Rattle.block.specs.Block.{blank, mendedBlock};
 ghost use Rattle.block.specs.Verdict.{verdictOf};
-ghost use Rattle.block.specs.Sums.{sumsOf};
+ghost use Rattle.sums.specs.Sums.{sumsOf};
 ghost use Rattle.store.specs.Inner.{Inside, strideRead, strideWrite};
 ghost use Rattle.store.specs.Visit.{Visits, VisitsAccepted};
 use super::Answer;
 use super::copies::gather;
 use super::copies::scatter;
-use block::SUM_WORDS;
 use block::Verdict;
 use layout::Layout;
 use layout::Site;
 use shape::MOST_ROWS;
 use shape::Shape;
+use sums::SUM_WORDS;
 
 // A block in doubt, with its sums: gathered, decided whole, and stored only where it was mended.
 fn mend(image: &mut [u32], shape: Shape, at: usize, s: u32, sums: &[u32; SUM_WORDS]) -> Verdict
@@ -43,7 +43,7 @@ pub fn visit(image: &mut [u32], layout: Layout, block: u32) -> Answer
         Site::At(shape, at) => {
             let s = layout.s;
             let mut sums = [0u32; SUM_WORDS];
-            if block::look(shape, image, at as u32, s, &mut sums) == 0 {
+            if sums::look(shape, image, at as u32, s, &mut sums) == 0 {
                 return Answer::Found(Verdict::Clean);
             }
             Answer::Found(mend(image, shape, at, s, &sums))
@@ -60,7 +60,7 @@ pub fn visit_accepted(image: &mut [u32], layout: Layout, block: u32) -> Verdict
         Site::At(shape, at) => {
             let s = layout.s;
             let mut sums = [0u32; SUM_WORDS];
-            if block::look(shape, image, at as u32, s, &mut sums) == 0 {
+            if sums::look(shape, image, at as u32, s, &mut sums) == 0 {
                 return Verdict::Clean;
             }
             mend(image, shape, at, s, &sums)

@@ -8,7 +8,7 @@ use borrow.Author.Needs.{needs}
 use Rattle.shape.specs.declared.Shape.{Shape}
 use Rattle.shape.specs.declared.Shape.the-variants.{One, Two}
 use Rattle.shape.specs.Shape.{before, words}
-use Rattle.block.proofs.Apart.{before-few}
+use Rattle.sums.proofs.Apart.{before-few}
 use Rattle.block.proofs.DataTables.{dataTwo, data-front, table-there, table-copied}
 use Rattle.block.proofs.coding.data_into.Statement.{statement}
 use Rattle.block.proofs.coding.data_into.Tie as tie

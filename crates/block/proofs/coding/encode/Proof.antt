@@ -11,7 +11,7 @@ use Rattle.shape.specs.declared.Shape.{Shape}
 use Rattle.shape.specs.Shape.{before}
 use Rattle.shape.proofs.Sizes.{before-lt}
 use Rattle.block.specs.Block.{dataBlock}
-use Rattle.block.specs.Sums.{sumsOf}
+use Rattle.sums.specs.Sums.{sumsOf}
 use Rattle.block.specs.Inner.{listed?, above?, rising?, xorAll, withChecks}
 use Rattle.block.proofs.Data.{length-data}
 use Rattle.block.proofs.DataTables.{data-one, data-two, table-spread}
@@ -23,13 +23,13 @@ use Rattle.block.proofs.coding.encode.Tie as tie
 abbrev start : tie.At-match-came → tie.Start
 start c = c .before .before
 
-abbrev came : tie.After-sums-beside → tie.At-match-came
+abbrev came : tie.After-beside → tie.At-match-came
 came c = c .before .before .before
 
 abbrev xored : tie.After-rows-before → tie.After-xor-all
 xored c = c .before .before .before .before
 
-abbrev summed : tie.After-rows-before → tie.After-sums-beside
+abbrev summed : tie.After-rows-before → tie.After-beside
 summed c = xored c .before .before
 
 spread-requires : tie.Need-spread-requires
@@ -64,10 +64,10 @@ module _ (c : tie.After-rows-before) where
   sums = sumsOf shape (dataBlock shape list)
 
   abbrev after : List ℕ
-  after = summed c .sums-beside .last .1 .1 .0
+  after = summed c .beside .last .1 .1 .0
 
   sums-are : after ≡ sums
-  sums-are = own-sums shape list (placed-is (came (summed c))) (summed c .sums-beside .ensures)
+  sums-are = own-sums shape list (placed-is (came (summed c))) (summed c .beside .ensures)
 
   checks-are : c .before .set-checks .last .0 ≡ withChecks sums (dataBlock shape list)
   checks-are = c .before .set-checks .ensures ∙ ap₂ withChecks sums-are (placed-is (came (summed c)))
@@ -96,7 +96,7 @@ encode-spec =
     (λ c. search needs)
     spread-requires-2
     (λ c. sym (block-long (c .before)))
-    (λ c κs. omega (arith, block-long (c .before .before)))
+    (λ c κs. search needs)
     (λ c. search needs)
     (λ c κs. search needs)
     (λ c κs. search needs)

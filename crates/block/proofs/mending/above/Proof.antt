@@ -7,7 +7,7 @@ use native.Mathlib.Numerals.{add-one}
 use native.Mathlib.Omega.{arith}
 use lib.Pow.{shr-shr}
 use Rattle.block.specs.Inner.{aboveOf}
-use Rattle.block.proofs.WordBits.{digit-one, digit-zero}
+use Rattle.sums.proofs.WordBits.{digit-one, digit-zero}
 use borrow.Author.Needs.{needs}
 use Rattle.block.proofs.mending.above.Statement.{statement}
 use Rattle.block.proofs.mending.above.Tie as tie

@@ -3,7 +3,7 @@ use Prim.Native.Nat.{ℕ, _≤_, _-_}
 use mathlib.Core.Path.{_≡_, refl, ap, _∙_}
 use native.Mathlib.Numerals.{add-one}
 use native.Mathlib.Omega.{arith}
-use Rattle.block.specs.Inner.{anyOf}
+use Rattle.sums.specs.Inner.{anyOf}
 use borrow.Author.Needs.{needs}
 use Rattle.block.proofs.mending.any.Statement.{statement}
 use Rattle.block.proofs.mending.any.Tie as tie

@@ -13,7 +13,8 @@ use Rattle.shape.specs.Shape.{before}
 use Rattle.shape.proofs.Sizes.{before-small, before-lt}
 use Rattle.block.specs.declared.Verdict.the-variants.{Mended, Lost}
 use Rattle.block.specs.Verdict.{saidOf}
-use Rattle.block.specs.Inner.{anyOf, aboveOf, lostLanes, flippedIn}
+use Rattle.sums.specs.Inner.{anyOf}
+use Rattle.block.specs.Inner.{aboveOf, lostLanes, flippedIn}
 use Rattle.block.proofs.Judged.{lost-decides, clean-decides, mended-decides, named-low}
 use Rattle.block.proofs.mending.decide.Statement.{statement}
 use Rattle.block.proofs.mending.decide.Tie as tie

@@ -6,7 +6,7 @@ use native.Mathlib.Nat.{le-refl}
 use native.Mathlib.Omega.{arith}
 use lib.Count.{trailingZeros}
 use Rattle.lane.specs.Bit.{bit}
-use Rattle.block.specs.Sums.{sumIn}
+use Rattle.sums.specs.Sums.{sumIn}
 use Rattle.block.proofs.Flips.{trailing-set, clear-less, one-lane, named-there, doneBut, none-done, all-done, next-done, next-within}
 use Rattle.block.proofs.mending.flip_named.Statement.{statement}
 use Rattle.block.proofs.mending.flip_named.Tie as tie

@@ -10,9 +10,9 @@ use lib.ListN.{getD}
 use lib.Pow.{pow-mono}
 use Rattle.lane.specs.Bit.{bit}
 use borrow.Author.Tests.{eq-eqb, ne-eqb}
-use Rattle.block.specs.Words.{number}
-use Rattle.block.specs.Sums.{sumIn}
-use Rattle.block.proofs.WordBits.{digit-one, digit-zero, number-lt}
+use Rattle.sums.specs.Words.{number}
+use Rattle.sums.specs.Sums.{sumIn}
+use Rattle.sums.proofs.WordBits.{digit-one, digit-zero, number-lt}
 use borrow.Author.Needs.{needs}
 use Rattle.block.proofs.mending.row_named.Statement.{statement}
 use Rattle.block.proofs.mending.row_named.Tie as tie

@@ -13,10 +13,10 @@ use Rattle.shape.specs.declared.Shape.{Shape}
 use Rattle.shape.specs.declared.Shape.the-variants.{One, Two}
 use Rattle.shape.specs.Shape.{before, rows}
 use Rattle.ground.proofs.Lists.{getD-listOf}
-use Rattle.block.specs.Words.{row}
-use Rattle.block.specs.Sums.{lying}
-use Rattle.block.specs.Inner.{xorRows}
-use Rattle.block.proofs.RowSums.{alike, Made, same-tests, together}
+use Rattle.sums.specs.Words.{row}
+use Rattle.sums.specs.Sums.{lying}
+use Rattle.sums.specs.Inner.{xorRows}
+use Rattle.sums.proofs.RowSums.{alike, Made, same-tests, together}
 
 -- row p of a block that lies in words: the rows are counted from 1
 abbrev pub placed : List ℕ → (at s p : ℕ) → ℕ

@@ -6,14 +6,14 @@ ghost use Prim.Native.Nat.{_+_, _<_};
 ghost use lib.ListN.{length};
 ghost use Rattle.shape.specs.declared.Shape.the-variants.{Two};
 ghost use Rattle.ground.specs.Stores.{stores};
-ghost use Rattle.block.specs.Sums.{lying, sumsOf, Looks};
-ghost use Rattle.block.specs.Inner.{Kept, highDigits, columnOf, inColumn, tabled};
+ghost use Rattle.sums.specs.Sums.{lying, sumsOf, Looks};
+ghost use Rattle.sums.specs.Inner.{Kept, highDigits, columnOf, inColumn, tabled};
 use shape::Shape;
 use shape::rows;
 use shape::rows_before;
 
 // How many binary digits a lane's sum has.
-pub(crate) const DIGITS: usize = 7;
+pub const DIGITS: usize = 7;
 
 // A word for each digit of the lanes' sums, and last the word of their parities.
 pub const SUM_WORDS: usize = DIGITS + 1;
@@ -45,7 +45,7 @@ fn high_digits(shape: Shape, upto: &[u32; 18]) -> [u32; 4]
 }
 
 // The sums of a block of either shape, its rows s apart: four rows a turn.
-pub(crate) fn sums_apart(
+fn sums_apart(
     shape: Shape,
     words: &[u32],
     at: u32,
@@ -126,8 +126,8 @@ fn columns(words: &[u32], at: usize, table: &mut [u32; 16], top: &mut [u32; 4], 
     }
 }
 
-// The sums of a block of shape 2 whose rows are neighbours.
-pub(crate) fn sums_beside(words: &[u32], at: usize, sums: &mut [u32; SUM_WORDS]) -> u32
+// The sums of a block of shape 2 whose rows are neighbours, and all there.
+fn sums_beside(words: &[u32], at: usize, sums: &mut [u32; SUM_WORDS]) -> u32
     requires { ⌜ at + 71 < length (now words) ⌝ }
     ensures { λ r. ⌜ Kept (sumsOf Two (lying Two (now (words .entry)) at 1)) r (now (sums .entry)) (now (sums .exit)) ⌝ }
 {
@@ -152,6 +152,17 @@ pub(crate) fn sums_beside(words: &[u32], at: usize, sums: &mut [u32; SUM_WORDS])
     )
 }
 
+// The same as `look`, of a block of shape 2 whose rows are neighbours.
+pub fn beside(words: &[u32], at: u32, sums: &mut [u32; SUM_WORDS]) -> u32
+    ensures { λ r. ⌜ Looks Two (now (words .entry)) at 1 (now (sums .entry)) r (now (sums .exit)) ⌝ }
+{
+    let first = at as usize;
+    if words.len() < first + rows(Shape::Two) {
+        return 1;
+    }
+    sums_beside(&*words, first, sums)
+}
+
 // The lanes that are not valid in the block with rows at `at`, `at + s`, .., and its sums where there are any; 1 where a row is missing.
 pub fn look(shape: Shape, words: &[u32], at: u32, s: u32, sums: &mut [u32; SUM_WORDS]) -> u32
     ensures { λ r. ⌜ Looks shape (now (words .entry)) at s (now (sums .entry)) r (now (sums .exit)) ⌝ }
@@ -161,12 +172,6 @@ pub fn look(shape: Shape, words: &[u32], at: u32, s: u32, sums: &mut [u32; SUM_W
     }
     match shape {
         Shape::One => sums_apart(Shape::One, words, at, 1, sums),
-        Shape::Two => {
-            let first = at as usize;
-            if words.len() < first + rows(Shape::Two) {
-                return 1;
-            }
-            sums_beside(&*words, first, sums)
-        }
+        Shape::Two => beside(words, at, sums),
     }
 }

@@ -1,27 +1,46 @@
 -- The sums as eight words hold each lane's sum and parity, and the lanes in which a word is set are those that are not valid. Assumes nothing.
 use Prim.Native.Nat.{ℕ, zero, suc, _+_, _*_, _^_, _≤_, _<_}
-use mathlib.Core.Bool.{Bool, not, _||_}
+use mathlib.Core.Bool.{Bool, true, false, not, _||_}
 use mathlib.Core.Path.{_≡_, refl, sym, ap, ap₂, _∙_}
 use mathlib.Core.List.{List}
 use native.Mathlib.Omega.{arith}
 use lib.Bits.{bitOr, or-lt}
-use lib.Dec.{eqb}
+use lib.Dec.{eqb, eqb·suc-zero}
 use lib.ListN.{length, getD}
 use lib.Pow.{pow-pos}
-use Rattle.lane.specs.Bit.{bit}
+use borrow.Author.Tests.{ne-eqb}
+use Rattle.lane.specs.Bit.{bit, pick}
 use Rattle.lane.specs.Lane.{sum, odd}
-use Rattle.lane.specs.Decision.{decision, decide}
-use Rattle.lane.proofs.Bits.{bit-or}
+use Rattle.lane.proofs.Bits.{bit-zero, bit-or}
 use Rattle.lane.proofs.Exactly.{sum-lt}
 use Rattle.ground.specs.Choice.{ifZero}
 use Rattle.shape.specs.declared.Shape.{Shape}
 use Rattle.shape.specs.Shape.{before, rows}
 use Rattle.shape.proofs.Sizes.{before-small}
-use Rattle.block.specs.Words.{lane, word}
-use Rattle.block.specs.Sums.{lying, sumsOf, doubtful, Looks, sumIn, oddIn, decisionIn}
-use Rattle.block.specs.Inner.{anyOf, Kept}
-use Rattle.block.proofs.WordBits.{number-lt, number-bits, bit-number}
-use Rattle.block.proofs.Lanes.{bit-any}
+use Rattle.sums.specs.Words.{lane, number, word}
+use Rattle.sums.specs.Sums.{lying, sumsOf, doubtful, Looks, sumIn, oddIn}
+use Rattle.sums.specs.Inner.{anyOf, Kept}
+use Rattle.sums.proofs.WordBits.{number-lt, number-bits, bit-number}
+
+-- ---- the lanes with a sum
+
+module _ (i : ℕ) (digits : List ℕ) where
+  abbrev low : ℕ → ℕ
+  low k = number k (λ j. bit i (getD digits j 0))
+
+  or-zero : (n k : ℕ) (b : Bool) → not (eqb n 0) || b ≡ not (eqb (n + pick b (2 ^ k)) 0)
+  or-zero zero k true = sym (ap not (ne-eqb (0 + 2 ^ k) 0 (λ e. let p = pow-pos k in omega arith)))
+  or-zero zero k false = refl
+  or-zero (suc n) k b = rw (eqb·suc-zero n, ne-eqb (suc n + pick b (2 ^ k)) 0 (λ e. omega arith))
+
+  pub bit-any : (k : ℕ) → bit i (anyOf k digits) ≡ not (eqb (low k) 0)
+  unfolding anyOf number
+  bit-any zero = bit-zero i
+  bit-any (suc k) =
+      bit-or i (anyOf k digits) (getD digits k 0) ∙ ap (λ (b : Bool). b || bit i (getD digits k 0)) (bit-any k)
+      ∙ or-zero (low k) k (bit i (getD digits k 0))
+
+-- ---- the sums
 
 module _ (shape : Shape) (block : List ℕ) where
   abbrev sums : List ℕ
@@ -45,10 +64,6 @@ module _ (shape : Shape) (block : List ℕ) where
   pub sum-in : (i : ℕ) → i < 32 → sumIn sums i ≡ sum (before shape) (lane i block)
   sum-in i l =
       sym (number-bits 7 (sum (before shape) (lane i block)) _ (sum-lt 7 (before shape) (lane i block) (before-small shape)) (λ k h. sym (digit-in k i h l)))
-
-  -- what is decided by them is what is decided of the lane
-  pub decision-in : (i : ℕ) → i < 32 → decisionIn shape sums i ≡ decide (before shape) (lane i block)
-  decision-in i l = ap₂ (decision (before shape)) (odd-in i l) (sum-in i l)
 
   pub word-lt : (k : ℕ) → k < 8 → getD sums k 0 < 2 ^ 32
   unfolding sumsOf

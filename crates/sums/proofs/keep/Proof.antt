@@ -1,10 +1,10 @@
--- `block::sums::keep` meets its contract. Assumes nothing.
+-- `sums::keep` meets its contract. Assumes nothing.
 use mathlib.Core.Path.{refl, sym}
 use borrow.Author.Needs.{needs}
 use Rattle.ground.proofs.Choices.{refused-kept}
-use Rattle.block.specs.Inner.{anyOf}
-use Rattle.block.proofs.sums.keep.Statement.{statement}
-use Rattle.block.proofs.sums.keep.Tie as tie
+use Rattle.sums.specs.Inner.{anyOf}
+use Rattle.sums.proofs.keep.Statement.{statement}
+use Rattle.sums.proofs.keep.Tie as tie
 
 returns : tie.Need-returns
 unfolding anyOf

@@ -1,8 +1,8 @@
--- `block::sums::high_digits` meets its contract, by the shape. Assumes nothing.
+-- `sums::high_digits` meets its contract, by the shape. Assumes nothing.
 use mathlib.Core.Path.{refl}
 use borrow.Author.Needs.{needs}
-use Rattle.block.proofs.sums.high_digits.Statement.{statement}
-use Rattle.block.proofs.sums.high_digits.Tie as tie
+use Rattle.sums.proofs.high_digits.Statement.{statement}
+use Rattle.sums.proofs.high_digits.Tie as tie
 
 returns : tie.Need-returns
 returns c = rw (c .enum-told .given .1) refl

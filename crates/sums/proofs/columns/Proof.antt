@@ -1,4 +1,4 @@
--- `block::sums::columns` meets its contract. The loop's invariant: the columns passed are in their places. Assumes nothing.
+-- `sums::columns` meets its contract. The loop's invariant: the columns passed are in their places. Assumes nothing.
 use Prim.Native.Nat.{ℕ, _+_, _*_, _≤_, _-_}
 use mathlib.Core.Path.{_≡_, refl, sym, ap, _∙_}
 use mathlib.Core.List.{List}
@@ -7,9 +7,9 @@ use native.Mathlib.Omega.{arith}
 use lib.ListN.{set}
 use borrow.Author.Needs.{needs}
 use Rattle.ground.specs.Stores.{stores}
-use Rattle.block.specs.Inner.{Column, columnOf, inColumn, tabled}
-use Rattle.block.proofs.sums.columns.Statement.{statement}
-use Rattle.block.proofs.sums.columns.Tie as tie
+use Rattle.sums.specs.Inner.{Column, columnOf, inColumn, tabled}
+use Rattle.sums.proofs.columns.Statement.{statement}
+use Rattle.sums.proofs.columns.Tie as tie
 
 abbrev Inv-loop : tie.InvT-loop
 Inv-loop words at table₀ top₀ all₀ c₀ table top all c =

@@ -1,12 +1,12 @@
--- `block::sums::sums_beside` meets its contract: the four columns give the sums. Assumes nothing.
+-- `sums::sums_beside` meets its contract: the four columns give the sums. Assumes nothing.
 use mathlib.Core.Path.{ap, _∙_}
 use native.Mathlib.Omega.{arith}
 use borrow.Author.Needs.{needs}
 use Rattle.ground.specs.Choice.{ifZero}
-use Rattle.block.specs.Inner.{anyOf}
-use Rattle.block.proofs.Beside.{beside-sums}
-use Rattle.block.proofs.sums.sums_beside.Statement.{statement}
-use Rattle.block.proofs.sums.sums_beside.Tie as tie
+use Rattle.sums.specs.Inner.{anyOf}
+use Rattle.sums.proofs.Neighbours.{beside-sums}
+use Rattle.sums.proofs.sums_beside.Statement.{statement}
+use Rattle.sums.proofs.sums_beside.Tie as tie
 
 -- the columns, from the end, and the start from them
 abbrev summed : tie.After-keep → tie.After-columns

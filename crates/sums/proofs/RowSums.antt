@@ -19,10 +19,10 @@ use Rattle.lane.proofs.Exactly.{pick-bit}
 use Rattle.ground.proofs.Bools.{both}
 use Rattle.shape.specs.declared.Shape.{Shape}
 use Rattle.shape.specs.Shape.{before, rows}
-use Rattle.block.specs.Words.{row, lane, word}
-use Rattle.block.specs.Sums.{sumsOf}
-use Rattle.block.specs.Inner.{xorRows}
-use Rattle.block.proofs.WordBits.{number-bits}
+use Rattle.sums.specs.Words.{row, lane, word}
+use Rattle.sums.specs.Sums.{sumsOf}
+use Rattle.sums.specs.Inner.{xorRows}
+use Rattle.sums.proofs.WordBits.{number-bits}
 
 -- ---- tests
 

@@ -13,7 +13,7 @@ use borrow.Author.Tests.{eq-eqb, ne-eqb}
 use Rattle.lane.specs.Bit.{set?, bit, _⊕_, pick}
 use Rattle.lane.proofs.Bits.{bit-xor, bit-high, bit-shift, bit-ext-below, ⊕-zero}
 use Rattle.lane.proofs.Rows.{power-digit, power-apart}
-use Rattle.block.specs.Words.{row, number}
+use Rattle.sums.specs.Words.{row, number}
 
 -- where the word of a row stands
 pub row-at : (p : ℕ) (block : List ℕ) → 1 ≤ p → getD block (p - 1) 0 ≡ row p block

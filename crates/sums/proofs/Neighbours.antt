@@ -11,10 +11,10 @@ use borrow.Author.Tests.{le-leb, lt-leb}
 use Rattle.lane.specs.Bit.{bit, _⊕_, pick}
 use Rattle.ground.specs.Stores.{stores}
 use Rattle.shape.specs.declared.Shape.the-variants.{Two}
-use Rattle.block.specs.Sums.{lying, sumsOf}
-use Rattle.block.specs.Inner.{xorRows, Column, columnOf, inColumn, tabled}
-use Rattle.block.proofs.RowSums.{Made, together, agree?, agreed, same-tests, same-words, one-row, no-row, rows-upto, sums-are}
-use Rattle.block.proofs.Groups.{placed, placed-fits, placed-lies, ends, low-digit, next-digit, parities, but-last}
+use Rattle.sums.specs.Sums.{lying, sumsOf}
+use Rattle.sums.specs.Inner.{xorRows, Column, columnOf, inColumn, tabled}
+use Rattle.sums.proofs.RowSums.{Made, together, agree?, agreed, same-tests, same-words, one-row, no-row, rows-upto, sums-are}
+use Rattle.sums.proofs.Groups.{placed, placed-fits, placed-lies, ends, low-digit, next-digit, parities, but-last}
 
 -- ---- one column
 

@@ -1,4 +1,4 @@
--- `block::sums::sums_apart` meets its contract. The loop's invariant: the columns, the words stored and digit 2 are those of the rows passed.
+-- `sums::sums_apart` meets its contract. The loop's invariant: the columns, the words stored and digit 2 are those of the rows passed.
 -- Assumes nothing.
 use Prim.Native.Nat.{ℕ, suc, _+_, _*_, _/_, _^_, _≤_, _<_, _-_}
 use mathlib.Core.Path.{_≡_, refl, sym, ap, ap₂, _∙_}
@@ -12,11 +12,11 @@ use borrow.Author.Needs.{needs}
 use Rattle.ground.specs.Stores.{stores}
 use Rattle.shape.specs.declared.Shape.{Shape}
 use Rattle.shape.specs.Shape.{before, rows}
-use Rattle.block.proofs.Groups.{placed}
-use Rattle.block.proofs.Apart.{apart-sums, Turned, turn-read, all-read, upTo, stair, one-on, two-on, three-on, four-on, none-turned, few-turns, within, before-few}
-use Rattle.block.proofs.Doubt.{looks, misses}
-use Rattle.block.proofs.sums.sums_apart.Statement.{statement}
-use Rattle.block.proofs.sums.sums_apart.Tie as tie
+use Rattle.sums.proofs.Groups.{placed}
+use Rattle.sums.proofs.Apart.{apart-sums, Turned, turn-read, all-read, upTo, stair, one-on, two-on, three-on, four-on, none-turned, few-turns, within, before-few}
+use Rattle.sums.proofs.Doubt.{looks, misses}
+use Rattle.sums.proofs.sums_apart.Statement.{statement}
+use Rattle.sums.proofs.sums_apart.Tie as tie
 
 abbrev Inv-loop : tie.InvT-loop
 Inv-loop shape words at s sums step i₀ turns upto₀ ending-00₀ ending-01₀ ending-10₀ ending-11₀ d2₀ q₀ i upto ending-00 ending-01 ending-10 ending-11 d2 q =
