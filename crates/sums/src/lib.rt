@@ -45,13 +45,7 @@ fn high_digits(shape: Shape, upto: &[u32; 18]) -> [u32; 4]
 }
 
 // The sums of a block of either shape, its rows s apart: four rows a turn.
-fn sums_apart(
-    shape: Shape,
-    words: &[u32],
-    at: u32,
-    s: u32,
-    sums: &mut [u32; SUM_WORDS],
-) -> u32
+fn sums_apart(shape: Shape, words: &[u32], at: u32, s: u32, sums: &mut [u32; SUM_WORDS]) -> u32
     ensures { λ r. ⌜ Looks shape (now (words .entry)) at s (now (sums .entry)) r (now (sums .exit)) ⌝ }
 {
     let step = s as usize;
