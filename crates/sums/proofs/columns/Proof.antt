@@ -1,10 +1,13 @@
 -- `sums::columns` meets its contract. The loop's invariant: the columns passed are in their places. Assumes nothing.
-use Prim.Native.Nat.{ℕ, _+_, _*_, _≤_, _-_}
+use Prim.Native.Nat.{ℕ, _+_, _*_, _-_, _≤_, _<_}
 use mathlib.Core.Path.{_≡_, refl, sym, ap, _∙_}
 use mathlib.Core.List.{List}
 use native.Mathlib.Numerals.{add-one}
 use native.Mathlib.Omega.{arith}
-use lib.ListN.{set}
+use lib.Dec.{lit≤}
+use lib.ListN.{length, set}
+use mir.Syntax.{w64}
+use mir.Val.{Fits}
 use borrow.Author.Needs.{needs}
 use Rattle.ground.specs.Stores.{stores}
 use Rattle.sums.specs.Inner.{Column, columnOf, inColumn, tabled}
@@ -25,6 +28,57 @@ ninth c = c .before .before .before .before .before .before .before .before
 
 abbrev first : tie.After-shared-slice-known9 Inv-loop μ-loop → tie.After-shared-slice-known Inv-loop μ-loop
 first c = c .before .before .before .before .before .before .before .before
+
+-- the turn, from the ninth word
+abbrev turn : tie.After-shared-slice-known9 Inv-loop μ-loop → tie.In-loop Inv-loop μ-loop
+turn c = c .before .before .before .before .before .before .before .before .before
+
+-- each word of the column is there, and its place is a number that fits, counted in words and in bytes
+module _ (c : tie.In-loop Inv-loop μ-loop) (k : ℕ) (h : k ≤ 67) where
+  abbrev at : ℕ
+  at = c .before .before .args .at
+
+  abbrev column : ℕ
+  column = c .before .loop .c
+
+  inside : at + k + column < length (c .before .before .args .words .now)
+  inside = omega arith
+
+  near : Fits w64 (at + k)
+  near = omega arith
+
+  place : Fits w64 (at + k + column)
+  place = omega arith
+
+  byte : Fits w64 ((at + k + column) * 4)
+  byte = omega arith
+
+-- and so it is with the entries of column x in the tables
+below : (c : tie.After-shared-slice-known17 Inv-loop μ-loop) → first (ninth c) .before .before .loop .c < 4
+below c = first (ninth c) .before .loop-test .taken
+
+module _ (x : ℕ) (h : x < 4) where
+  four : Fits w64 (4 * x)
+  four = omega arith
+
+  four-byte : Fits w64 (4 * x * 4)
+  four-byte = omega arith
+
+  tabled-at : 4 * x < 16
+  tabled-at = omega arith
+
+  column-byte : Fits w64 (x * 4)
+  column-byte = omega arith
+
+  module _ (j : ℕ) (l : j ≤ 3) where
+    entry : Fits w64 (4 * x + j)
+    entry = omega arith
+
+    entry-byte : Fits w64 ((4 * x + j) * 4)
+    entry-byte = omega arith
+
+    entry-in : 4 * x + j < 16
+    entry-in = omega arith
 
 loop-holds : tie.Need-loop-holds Inv-loop μ-loop
 unfolding tabled stores
@@ -73,93 +127,93 @@ columns-spec =
     Inv-loop
     μ-loop
     loop-holds
-    (λ c. search needs)
-    (λ c. search needs)
-    (λ c. search needs)
-    (λ c. search needs)
-    (λ c. search needs)
-    (λ c. search needs)
-    (λ c. search needs)
-    (λ c. search needs)
-    (λ c. search needs)
-    (λ c. search needs)
-    (λ c. search needs)
-    (λ c. search needs)
-    (λ c. search needs)
-    (λ c. search needs)
-    (λ c. search needs)
-    (λ c. search needs)
-    (λ c. search needs)
-    (λ c. search needs)
-    (λ c. search needs)
-    (λ c. search needs)
-    (λ c. search needs)
-    (λ c. search needs)
-    (λ c. search needs)
-    (λ c. search needs)
-    (λ c. search needs)
-    (λ c. search needs)
-    (λ c. search needs)
-    (λ c. search needs)
-    (λ c. search needs)
-    (λ c. search needs)
-    (λ c. search needs)
-    (λ c. search needs)
-    (λ c. search needs)
-    (λ c. search needs)
-    (λ c. search needs)
-    (λ c. search needs)
-    (λ c. search needs)
-    (λ c. search needs)
-    (λ c. search needs)
-    (λ c. search needs)
-    (λ c. search needs)
-    (λ c. search needs)
-    (λ c. search needs)
-    (λ c. search needs)
-    (λ c. search needs)
-    (λ c. search needs)
-    (λ c. search needs)
-    (λ c. search needs)
-    (λ c. search needs)
-    (λ c. search needs)
-    (λ c. search needs)
-    (λ c. search needs)
-    (λ c. search needs)
-    (λ c. search needs)
-    (λ c. search needs)
-    (λ c. search needs)
-    (λ c. search needs)
-    (λ c. search needs)
-    (λ c. search needs)
-    (λ c. search needs)
-    (λ c. search needs)
-    (λ c. search needs)
-    (λ c. search needs)
-    (λ c. search needs)
-    (λ c. search needs)
-    (λ c. search needs)
-    (λ c. search needs)
-    (λ c. search needs)
-    (λ c. search needs)
-    (λ c. search needs)
-    (λ c. search needs)
-    (λ c. search needs)
-    (λ c. search needs)
-    (λ c. search needs)
-    (λ c. search needs)
-    (λ c. search needs)
-    (λ c. search needs)
-    (λ c. search needs)
-    (λ c. search needs)
-    (λ c. search needs)
-    (λ c. search needs)
-    (λ c. search needs)
-    (λ c. search needs)
-    (λ c. search needs)
-    (λ c. search needs)
-    (λ c. search needs)
-    (λ c. search needs)
+    (λ c. near c 3 (lit≤ tt))
+    (λ c. place c 3 (lit≤ tt))
+    (λ c. byte c 3 (lit≤ tt))
+    (λ c. inside (c .before) 3 (lit≤ tt))
+    (λ c. near (c .before) 11 (lit≤ tt))
+    (λ c. place (c .before) 11 (lit≤ tt))
+    (λ c. byte (c .before) 11 (lit≤ tt))
+    (λ c. inside (c .before .before) 11 (lit≤ tt))
+    (λ c. near (c .before .before) 19 (lit≤ tt))
+    (λ c. place (c .before .before) 19 (lit≤ tt))
+    (λ c. byte (c .before .before) 19 (lit≤ tt))
+    (λ c. inside (c .before .before .before) 19 (lit≤ tt))
+    (λ c. near (c .before .before .before) 27 (lit≤ tt))
+    (λ c. place (c .before .before .before) 27 (lit≤ tt))
+    (λ c. byte (c .before .before .before) 27 (lit≤ tt))
+    (λ c. inside (c .before .before .before .before) 27 (lit≤ tt))
+    (λ c. near (c .before .before .before .before) 35 (lit≤ tt))
+    (λ c. place (c .before .before .before .before) 35 (lit≤ tt))
+    (λ c. byte (c .before .before .before .before) 35 (lit≤ tt))
+    (λ c. inside (c .before .before .before .before .before) 35 (lit≤ tt))
+    (λ c. near (c .before .before .before .before .before) 43 (lit≤ tt))
+    (λ c. place (c .before .before .before .before .before) 43 (lit≤ tt))
+    (λ c. byte (c .before .before .before .before .before) 43 (lit≤ tt))
+    (λ c. inside (c .before .before .before .before .before .before) 43 (lit≤ tt))
+    (λ c. near (c .before .before .before .before .before .before) 51 (lit≤ tt))
+    (λ c. place (c .before .before .before .before .before .before) 51 (lit≤ tt))
+    (λ c. byte (c .before .before .before .before .before .before) 51 (lit≤ tt))
+    (λ c. inside (c .before .before .before .before .before .before .before) 51 (lit≤ tt))
+    (λ c. near (c .before .before .before .before .before .before .before) 59 (lit≤ tt))
+    (λ c. place (c .before .before .before .before .before .before .before) 59 (lit≤ tt))
+    (λ c. byte (c .before .before .before .before .before .before .before) 59 (lit≤ tt))
+    (λ c. inside (c .before .before .before .before .before .before .before .before) 59 (lit≤ tt))
+    (λ c. near (c .before .before .before .before .before .before .before .before) 67 (lit≤ tt))
+    (λ c. place (c .before .before .before .before .before .before .before .before) 67 (lit≤ tt))
+    (λ c. byte (c .before .before .before .before .before .before .before .before) 67 (lit≤ tt))
+    (λ c. inside (turn c) 67 (lit≤ tt))
+    (λ c. near (turn c) 7 (lit≤ tt))
+    (λ c. place (turn c) 7 (lit≤ tt))
+    (λ c. byte (turn c) 7 (lit≤ tt))
+    (λ c. inside (turn (c .before)) 7 (lit≤ tt))
+    (λ c. near (turn (c .before)) 15 (lit≤ tt))
+    (λ c. place (turn (c .before)) 15 (lit≤ tt))
+    (λ c. byte (turn (c .before)) 15 (lit≤ tt))
+    (λ c. inside (turn (c .before .before)) 15 (lit≤ tt))
+    (λ c. near (turn (c .before .before)) 23 (lit≤ tt))
+    (λ c. place (turn (c .before .before)) 23 (lit≤ tt))
+    (λ c. byte (turn (c .before .before)) 23 (lit≤ tt))
+    (λ c. inside (turn (c .before .before .before)) 23 (lit≤ tt))
+    (λ c. near (turn (c .before .before .before)) 31 (lit≤ tt))
+    (λ c. place (turn (c .before .before .before)) 31 (lit≤ tt))
+    (λ c. byte (turn (c .before .before .before)) 31 (lit≤ tt))
+    (λ c. inside (turn (c .before .before .before .before)) 31 (lit≤ tt))
+    (λ c. near (turn (c .before .before .before .before)) 39 (lit≤ tt))
+    (λ c. place (turn (c .before .before .before .before)) 39 (lit≤ tt))
+    (λ c. byte (turn (c .before .before .before .before)) 39 (lit≤ tt))
+    (λ c. inside (turn (c .before .before .before .before .before)) 39 (lit≤ tt))
+    (λ c. near (turn (c .before .before .before .before .before)) 47 (lit≤ tt))
+    (λ c. place (turn (c .before .before .before .before .before)) 47 (lit≤ tt))
+    (λ c. byte (turn (c .before .before .before .before .before)) 47 (lit≤ tt))
+    (λ c. inside (turn (c .before .before .before .before .before .before)) 47 (lit≤ tt))
+    (λ c. near (turn (c .before .before .before .before .before .before)) 55 (lit≤ tt))
+    (λ c. place (turn (c .before .before .before .before .before .before)) 55 (lit≤ tt))
+    (λ c. byte (turn (c .before .before .before .before .before .before)) 55 (lit≤ tt))
+    (λ c. inside (turn (c .before .before .before .before .before .before .before)) 55 (lit≤ tt))
+    (λ c. near (turn (c .before .before .before .before .before .before .before)) 63 (lit≤ tt))
+    (λ c. place (turn (c .before .before .before .before .before .before .before)) 63 (lit≤ tt))
+    (λ c. byte (turn (c .before .before .before .before .before .before .before)) 63 (lit≤ tt))
+    (λ c. inside (turn (c .before .before .before .before .before .before .before .before)) 63 (lit≤ tt))
+    (λ c. four _ (below c))
+    (λ c. four-byte _ (below c))
+    (λ c. tabled-at _ (below c))
+    (λ c. four _ (below c))
+    (λ c. entry _ (below c) 1 (lit≤ tt))
+    (λ c. entry-byte _ (below c) 1 (lit≤ tt))
+    (λ c. entry-in _ (below c) 1 (lit≤ tt))
+    (λ c. four _ (below c))
+    (λ c. entry _ (below c) 2 (lit≤ tt))
+    (λ c. entry-byte _ (below c) 2 (lit≤ tt))
+    (λ c. entry-in _ (below c) 2 (lit≤ tt))
+    (λ c. four _ (below c))
+    (λ c. entry _ (below c) 3 (lit≤ tt))
+    (λ c. entry-byte _ (below c) 3 (lit≤ tt))
+    (λ c. entry-in _ (below c) 3 (lit≤ tt))
+    (λ c. column-byte _ (below c))
+    (λ c. below c)
+    (λ c. column-byte _ (below c))
+    (λ c. below c)
     (λ c. search needs)
     (λ c. search needs)
     loop-again
