@@ -1,4 +1,4 @@
-/* The interface of include/foldgrebe.h in plain C: the library's algorithm as a C programmer would write it.
+/* The interface of include/foldgrebe.h in plain C: the library's calls as a C programmer would write them, the covered rows in lists.
    It is the measure for the library's speed, and a second body for tests/run to try its rig on.
 
    A word is 32 lanes at once: the xor of the rows that one check row covers is that digit of the sum in every lane. */

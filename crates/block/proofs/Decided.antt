@@ -22,12 +22,12 @@ use Rattle.block.specs.declared.Verdict.{Verdict}
 use Rattle.block.specs.declared.Verdict.the-variants.{Clean}
 use Rattle.sums.specs.Words.{lane}
 use Rattle.block.specs.Block.{lanesLost, mendedLanes, mendedBlock, bitsChanged}
-use Rattle.block.specs.Verdict.{Said, saidOf, saidBy, toSay, verdictOf}
+use Rattle.block.specs.Verdict.{saidOf, saidBy, toSay, verdictOf}
 use Rattle.sums.specs.Sums.{sumsOf, doubtful}
 use Rattle.block.specs.Sums.{decisionIn, lostIn, oddCount, changedIn, Decides}
 use Rattle.sums.proofs.WordBits.{number-same, bit-number}
 use Rattle.sums.proofs.Doubt.{odd-in, sum-in}
-use Rattle.block.proofs.Blocks.{AllKept, none-counted, kept-none, none-kept, mended-kept, unchanged-lanes, changed-odd}
+use Rattle.block.proofs.Blocks.{AllKept, none-counted, kept-none, none-kept, mended-kept, changed-odd}
 use Rattle.block.proofs.Verdicts.{says-verdict}
 
 -- the bits changed count only where no lane is lost
@@ -93,12 +93,6 @@ module _ (shape : Shape) (block : List ℕ) where
       kept : AllKept shape block
       unfolding decision
       kept i h = ap lost? (unmoved i h)
-
-      pub clean-block : block ≡ mendedBlock shape block
-      unfolding decision
-      clean-block =
-          unchanged-lanes shape block (λ i h p. ap (λ (d : Decision). changes d p) (unmoved i h))
-          ∙ sym (mended-kept shape block (kept-none shape block kept))
 
       pub clean-verdict : Clean ≡ verdictOf shape block
       unfolding toSay

@@ -1,12 +1,12 @@
 -- The words decide as the definitions do, whichever eight words they are: lost, clean or mended, with its count. Assumes nothing.
 use Prim.Native.Nat.{ℕ, zero, suc, _+_, _-_, _^_, _<_}
-use mathlib.Core.Bool.{Bool, true, false, not, cond, _&&_, _||_, true≢false}
+use mathlib.Core.Bool.{Bool, true, false, cond, _&&_, _||_, true≢false}
 use mathlib.Core.Path.{_≡_, refl, sym, ap, ap₂, _∙_}
 use mathlib.Core.List.{List}
 use native.Mathlib.Nat.{mod-eq-of-lt}
 use native.Mathlib.Numerals.{add-one}
 use native.Mathlib.Omega.{arith}
-use lib.Bits.{bitXor, bitAnd, bitOr, and-le-l, or-lt, xor-zero-r}
+use lib.Bits.{bitXor, bitAnd, and-le-l, or-lt, xor-zero-r}
 use lib.Count.{ones}
 use lib.Dec.{eqb, ltb, leb, eqb·suc-zero, lit<}
 use lib.ListN.{length, getD}

@@ -10,7 +10,7 @@ use lib.Count.{ones, onesIn, ones-step}
 use lib.Dec.{eqb, ltb, leb, eqb·suc-zero}
 use lib.ListN.{getD}
 use lib.Pow.{pow-pos, mod-pow-add}
-use borrow.Author.Tests.{ne-eqb, lt-ltb, le-ltb, ltb-true, ltb-false}
+use borrow.Author.Tests.{lt-ltb, le-ltb, ltb-true, ltb-false}
 use Rattle.lane.specs.Bit.{set?, bit, pick}
 use Rattle.lane.specs.Decision.{flipped, lost, decision, lost?}
 use Rattle.lane.proofs.Bits.{bit-zero, bit-and, bit-or, bit-shift}

@@ -1,12 +1,10 @@
--- The check rows are the last row and those whose number is a power of two; the others are the data rows, lowest first.
--- The last row covers all rows; check row 2^k covers the rows below the last whose number has digit k. Assumes nothing.
+-- The check rows are the last row and those whose number is a power of two; the others are the data rows, lowest first. Assumes nothing.
 use Prim.Native.Nat.{ℕ, zero, suc, _^_, _≤_, _<_}
-use mathlib.Core.Bool.{Bool, true, false, not, cond, _||_}
+use mathlib.Core.Bool.{Bool, false, not, cond, _||_}
 use mathlib.Core.Path.{_≡_}
 use mathlib.Core.List.{List, [], _∷_, _++_}
 use lib.Dec.{eqb}
 use lib.ListN.{length, getD}
-use Rattle.lane.specs.Bit.{bit}
 
 -- is p one of 1, 2, 4, .. below 2^k
 unfoldable pub power? : ℕ → ℕ → Bool
@@ -31,11 +29,3 @@ rowsWhere test (suc n) = rowsWhere test n ++ cond (test (suc n)) (suc n ∷ []) 
 -- the data rows, where the m rows before the last number below 2^k
 abbrev pub dataRows : ℕ → ℕ → List ℕ
 dataRows k m = rowsWhere (λ p. not (power? k p)) m
-
--- the rows that check row 2^k covers
-abbrev pub covered : ℕ → ℕ → List ℕ
-covered k m = rowsWhere (bit k) m
-
--- the rows that the last row covers
-abbrev pub allRows : ℕ → List ℕ
-allRows m = rowsWhere (λ p. true) (suc m)

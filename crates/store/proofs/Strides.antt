@@ -44,8 +44,8 @@ module _ (image : List ℕ) (shape : Shape) (at s : ℕ) where
       (sym (stores-same image (λ k. at + k * s) (λ k. getD (strideRead image at s blank (rows shape)) k 0) (rows shape) read-row))
 
   -- what is decided of the rows that are read, by their sums
-  pub decided-there : {gathered mended sums : List ℕ} {v : Verdict} → sums ≡ sumsOf shape (strideRead image at s blank (rows shape)) → gathered ≡ strideRead image at s blank (rows shape)
-      → Decides shape gathered sums v mended
+  pub decided-there : {gathered mended sums : List ℕ} {v : Verdict} → sums ≡ sumsOf shape (strideRead image at s blank (rows shape))
+      → gathered ≡ strideRead image at s blank (rows shape) → Decides shape gathered sums v mended
       → (v ≡ verdictOf shape gathered) × (mended ≡ mendedBlock shape gathered) × (length mended ≡ 72)
   decided-there {gathered = found} are took d =
       let long : rows shape ≤ length found = rw took read-long in
@@ -87,4 +87,6 @@ data-gathered shape {block = block} {buffer = buffer} long copies =
     ∙ data-alike shape (lying shape block 0 1) block same buffer
   where
     same : SameRows shape (lying shape block 0 1) block
-    same k h = unfold lying in (getD-listOf (rows shape) (λ k. getD block (0 + k * 1) 0) k h ∙ ap (λ (j : ℕ). getD block j 0) (let e : 0 + k * 1 ≡ k = omega arith in e))
+    same k h =
+        unfold lying in
+        (getD-listOf (rows shape) (λ k. getD block (0 + k * 1) 0) k h ∙ ap (λ (j : ℕ). getD block j 0) (let e : 0 + k * 1 ≡ k = omega arith in e))

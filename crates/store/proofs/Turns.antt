@@ -1,7 +1,7 @@
 -- Four rows a turn: where they lie, and four stores more. Assumes nothing.
 use Prim.Native.Nat.{ℕ, suc, _+_, _*_, _%_}
 use mathlib.Core.List.{List}
-use mathlib.Core.Path.{_≡_, refl, sym, ap, ap₂, _∙_}
+use mathlib.Core.Path.{_≡_, refl, sym, ap, _∙_}
 use native.Mathlib.Omega.{arith}
 use native.Mathlib.Nat.{suc-mul}
 use native.Mathlib.Numerals.{add-one}

@@ -17,7 +17,8 @@ use Rattle.shape.specs.Shape.{before, rows}
 use Rattle.sums.specs.Sums.{lying, sumsOf}
 use Rattle.sums.specs.Inner.{xorRows, highDigits}
 use Rattle.sums.proofs.RowSums.{Made, together, agree?, agreed, no-row, rows-upto, sums-are}
-use Rattle.sums.proofs.Groups.{placed, placed-fits, placed-lies, ends, ends-there, row-in, row-out, all-columns, low-digit, next-digit, parities, but-last}
+use Rattle.sums.proofs.Groups.{placed, placed-fits, placed-lies, ends, ends-there, row-in, row-out}
+use Rattle.sums.proofs.Groups.{all-columns, low-digit, next-digit, parities, but-last}
 
 -- the words of the columns after q turns
 pub record Turned (w : ℕ → ℕ) (q e00 e01 e10 e11 : ℕ) : Type 0 where

@@ -57,8 +57,8 @@ unfolding xorRows
 row-out t n w e x = x ∙ sym (ap (λ (b : Bool). bitXor (xorRows t n w) (pick b (w (suc n)))) e ∙ xor-zero-r (xorRows t n w))
 
 -- every number ends in one of the four ways
-four-ways : (x y : Bool) → (((alike false x && alike false y) ⊕ (alike false x && alike true y)) ⊕ (alike true x && alike false y)) ⊕ (alike true x && alike true y)
-    ≡ true
+four-ways : (x y : Bool)
+    → (((alike false x && alike false y) ⊕ (alike false x && alike true y)) ⊕ (alike true x && alike false y)) ⊕ (alike true x && alike true y) ≡ true
 four-ways true true = refl
 four-ways true false = refl
 four-ways false true = refl
@@ -110,7 +110,8 @@ module _ (n : ℕ) (w : ℕ → ℕ) {a b c d : ℕ} (ea : a ≡ xorRows (ends f
       ∙ same-tests (λ p. ((ends false true p ⊕ ends true true p) ⊕ ends false false p) ⊕ ends true false p) (λ p. true) n w
       (λ p f l. every (bit 1 p) (bit 0 p))
     where
-      every : (x y : Bool) → (((alike false x && alike true y) ⊕ (alike true x && alike true y)) ⊕ (alike false x && alike false y)) ⊕ (alike true x && alike false y)
+      every : (x y : Bool)
+          → (((alike false x && alike true y) ⊕ (alike true x && alike true y)) ⊕ (alike false x && alike false y)) ⊕ (alike true x && alike false y)
           ≡ true
       every true true = refl
       every true false = refl

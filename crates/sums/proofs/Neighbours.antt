@@ -121,7 +121,10 @@ module _ (t : ℕ → Bool) (w : ℕ → ℕ) where
 
   -- before group 1 there is none
   none-yet : (c : ℕ) → 0 ≡ xorRows (inGroups c t) 3 w
-  none-yet c = no-row 3 w ∙ same-tests (λ p. false) (inGroups c t) 3 w (λ p f l. sym (ap (λ (b : Bool). eqb (p % 4) c && (b && t (p / 4))) (lt-leb 4 p (omega arith)) ∙ and-false (eqb (p % 4) c)))
+  none-yet c =
+      no-row 3 w
+      ∙ same-tests (λ p. false) (inGroups c t) 3 w
+      (λ p f l. sym (ap (λ (b : Bool). eqb (p % 4) c && (b && t (p / 4))) (lt-leb 4 p (omega arith)) ∙ and-false (eqb (p % 4) c)))
 
   zeros : (y : ℕ) → y ≡ bitXor (bitXor (bitXor y 0) 0) 0
   zeros y = sym (xor-zero-r (bitXor (bitXor y 0) 0) ∙ xor-zero-r (bitXor y 0) ∙ xor-zero-r y)
@@ -134,7 +137,8 @@ module _ (t : ℕ → Bool) (w : ℕ → ℕ) where
       ap₂ (λ (y j : ℕ). bitXor y (pick (t (suc n)) (w j))) (pulled 0 n h) (let e : 4 * suc n + 0 ≡ suc (4 * n + 3) = omega arith in e)
       ∙ zeros _ ∙ sym (turn n 0)
   pulled (suc zero) (suc n) h =
-      ap₂ (λ (y j : ℕ). bitXor y (pick (t (suc n)) (w j))) (pulled 1 n h ∙ sym (xor-zero-r _)) (let e : 4 * suc n + 1 ≡ suc (suc (4 * n + 3)) = omega arith in e)
+      ap₂ (λ (y j : ℕ). bitXor y (pick (t (suc n)) (w j))) (pulled 1 n h ∙ sym (xor-zero-r _))
+      (let e : 4 * suc n + 1 ≡ suc (suc (4 * n + 3)) = omega arith in e)
       ∙ sym (xor-zero-r _ ∙ xor-zero-r _) ∙ sym (turn n 1)
   pulled (suc (suc zero)) (suc n) h =
       ap₂ (λ (y j : ℕ). bitXor y (pick (t (suc n)) (w j))) (pulled 2 n h ∙ sym (xor-zero-r _ ∙ xor-zero-r _))

@@ -1,6 +1,6 @@
 -- `sums::sums_apart` meets its contract. The loop's invariant: the columns, the words stored and digit 2 are those of the rows passed.
 -- Assumes nothing.
-use Prim.Native.Nat.{ℕ, suc, _+_, _*_, _/_, _^_, _≤_, _<_, _-_}
+use Prim.Native.Nat.{ℕ, suc, _+_, _*_, _/_, _≤_, _<_, _-_}
 use mathlib.Core.Path.{_≡_, refl, sym, ap, ap₂, _∙_}
 use mathlib.Core.List.{List}
 use native.Mathlib.Nat.{zero-mul}
@@ -13,14 +13,16 @@ use Rattle.ground.specs.Stores.{stores}
 use Rattle.shape.specs.declared.Shape.{Shape}
 use Rattle.shape.specs.Shape.{before, rows}
 use Rattle.sums.proofs.Groups.{placed}
-use Rattle.sums.proofs.Apart.{apart-sums, Turned, turn-read, all-read, upTo, stair, one-on, two-on, three-on, four-on, none-turned, few-turns, within, before-few}
+use Rattle.sums.proofs.Apart.{apart-sums, Turned, turn-read, all-read, upTo, stair}
+use Rattle.sums.proofs.Apart.{one-on, two-on, three-on, four-on, none-turned, few-turns, within, before-few}
 use Rattle.sums.proofs.Doubt.{looks, misses}
 use Rattle.sums.proofs.sums_apart.Statement.{statement}
 use Rattle.sums.proofs.sums_apart.Tie as tie
 
 abbrev Inv-loop : tie.InvT-loop
 Inv-loop shape words at s sums step i₀ turns upto₀ ending-00₀ ending-01₀ ending-10₀ ending-11₀ d2₀ q₀ i upto ending-00 ending-01 ending-10 ending-11 d2 q =
-    (turns ≡ rows shape / 4) × (q ≤ turns) × (i ≡ at + 4 * q * s) × Turned (placed words at s) q ending-00 ending-01 ending-10 ending-11 × (d2 ≡ stair (placed words at s) q)
+    (turns ≡ rows shape / 4) × (q ≤ turns) × (i ≡ at + 4 * q * s)
+    × Turned (placed words at s) q ending-00 ending-01 ending-10 ending-11 × (d2 ≡ stair (placed words at s) q)
     × (upto ≡ stores (replicate 18 0) (λ q. q) (upTo (placed words at s)) q)
 
 abbrev μ-loop : tie.MeasureT-loop

@@ -19,8 +19,9 @@ returns : tie.Need-returns
 returns c =
     let columns = summed c in
     let args = start columns .args in
-    let are = beside-sums (args .words .now) (args .at) (λ k. omega (arith, columns .before .before .before .before .shared-slice-known .given k)) (columns .columns .ensures .0) (columns .columns .ensures .1 .0)
-    (columns .columns .ensures .1 .1) in
+    let are = beside-sums (args .words .now) (args .at)
+    (λ k. omega (arith, columns .before .before .before .before .shared-slice-known .given k))
+    (columns .columns .ensures .0) (columns .columns .ensures .1 .0) (columns .columns .ensures .1 .1) in
     (c .keep .ensures .0 ∙ ap (anyOf 8) are, c .keep .ensures .1 ∙ ap (ifZero (c .keep .result) (args .sums .now)) are)
 
 pub sums-beside-spec : {M : Type 1} → statement M

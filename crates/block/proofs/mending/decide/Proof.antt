@@ -89,7 +89,8 @@ flip-named-requires c κs =
 returns-3 : tie.Need-returns-3
 returns-3 c =
     let b = c .before .before .before .before in
-    let d = mended-decides (shape b) (sums b) (parity-lt b) (any-lt b) (block b) (none-lost (c .before .before .before)) (λ z. c .before .before .if2 .left (parity-is b ∙ z)) in
+    let d = mended-decides (shape b) (sums b) (parity-lt b) (any-lt b) (block b) (none-lost (c .before .before .before))
+    (λ z. c .before .before .if2 .left (parity-is b ∙ z)) in
     record {
       says = ap (λ (w : ℕ). saidOf (Mended (ones w))) (parity-is b) ∙ d .says;
       leaves =

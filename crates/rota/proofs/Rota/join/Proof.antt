@@ -41,7 +41,8 @@ told : (c : tie.After-unbroken) → c .unbroken .result ≡ unbroken (tested c .
 told c =
     let rota = tested c .args .self in
     c .unbroken .ensures
-    ∙ ap (λ (l : List ℕ). unbroken (tested c .args .n) (record { next = rota .next; line = record { waiting = rota .line .waiting; asks = l } })) (tested c .pre)
+    ∙ ap (λ (l : List ℕ). unbroken (tested c .args .n) (record { next = rota .next; line = record { waiting = rota .line .waiting; asks = l } }))
+    (tested c .pre)
 
 ok : (c : tie.Then1) → unbroken (accepted c .args .n) (accepted c .args .self) ≡ true
 ok c = sym (told (c .before)) ∙ c .if1 .taken

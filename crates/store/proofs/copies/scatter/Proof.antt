@@ -29,7 +29,8 @@ returns c =
     let known = c .before .before .before .before .before in
     let args = known .before .before .args in
     c .before .before .put-beside .ensures
-    ∙ ap₂ (λ (s n : ℕ). strideWrite (args .image .now) (args .at) s (args .block .now) n) (sym (c .before .before .before .before .if1 .taken)) (known .rows .ensures)
+    ∙ ap₂ (λ (s n : ℕ). strideWrite (args .image .now) (args .at) s (args .block .now) n) (sym (c .before .before .before .before .if1 .taken))
+    (known .rows .ensures)
 
 returns-2 : tie.Need-returns-2
 returns-2 c =

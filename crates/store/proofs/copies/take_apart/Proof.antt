@@ -43,7 +43,8 @@ loop-again c =
       omega (arith, loop .inv .1),
       four-stores (args .block .now) (λ k. k) (λ k. getD image (args .at + k * args .s) 0) k (loop .inv .2) refl (omega arith) (omega arith) (omega arith)
           (read k _ (loop .inv .3)) (read (suc k) (loop .i + args .s) (omega (arith, loop .inv .3, on-1 k (args .s))))
-          (read (suc (suc k)) (loop .i + 2 * args .s) (omega (arith, loop .inv .3, on-2 k (args .s)))) (read (suc (suc (suc k))) (loop .i + 3 * args .s) (omega (arith, loop .inv .3, on-3 k (args .s)))),
+          (read (suc (suc k)) (loop .i + 2 * args .s) (omega (arith, loop .inv .3, on-2 k (args .s))))
+          (read (suc (suc (suc k))) (loop .i + 3 * args .s) (omega (arith, loop .inv .3, on-3 k (args .s)))),
       omega (arith, loop .inv .3, on-4 k (args .s)),
     )
 
