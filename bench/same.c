@@ -168,7 +168,7 @@ INLINE outcome decide(const findings *f, uint32_t shape)
 INLINE outcome visit_as(uint32_t *at, uint32_t s, uint32_t shape)
 {
     gathered b;
-    /* 16 rows are looked at where they lie; of 72 rows gcc makes less work on a copy. */
+    /* 16 rows that are neighbours are looked at where they lie; of 72 rows gcc makes less work on a copy. */
     int in_place = s == 1 && shape == 1;
     if (!in_place) gather(&b, at, s, rows_of(shape));
     findings f = look(in_place ? at : b.row, shape);

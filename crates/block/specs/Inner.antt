@@ -1,4 +1,4 @@
--- What the code computes on its way, 32 lanes at once: a word for each digit of the lanes' sums. Assumes nothing.
+-- What the code computes on its way, 32 lanes at once: tests of a table of rows, what the words of the sums decide, and the check rows. Assumes nothing.
 use Prim.Native.Nat.{ℕ, zero, suc, _-_, _^_, _≤_, _<_}
 use mathlib.Core.Bool.{Bool, true, cond, _&&_}
 use mathlib.Core.List.{List, [], _∷_}

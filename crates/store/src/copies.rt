@@ -1,5 +1,5 @@
 // A block's rows between the image and an array: gathered, and scattered. Neighbours are copied many at a time, others four a turn.
-// A shared image is lent on as `&*image`, which the compiler passes as a bare pointer.
+// A shared image is lent on as `&*image`, which the compiler then passes in registers (docs/SPEED.md).
 ghost use mathlib.Core.Path.{_≡_};
 ghost use Prim.Native.Nat.{_%_, _≤_};
 ghost use lib.ListN.{length};

@@ -15,7 +15,7 @@ unfoldable pub xorRows : (ℕ → Bool) → ℕ → (ℕ → ℕ) → ℕ
 xorRows test zero rowWord = zero
 xorRows test (suc n) rowWord = bitXor (xorRows test n rowWord) (pick (test (suc n)) (rowWord (suc n)))
 
--- the lanes with a one in any of the first k digits
+-- the lanes with a one in any of the first k words
 unfoldable pub anyOf : ℕ → List ℕ → ℕ
 anyOf zero digits = zero
 anyOf (suc k) digits = bitOr (anyOf k digits) (getD digits k 0)
