@@ -17,7 +17,7 @@ use Rattle.block.specs.declared.Verdict.{Verdict}
 use Rattle.block.specs.Block.{dataInto}
 use Rattle.block.specs.Verdict.{saidOf, saidBy}
 
--- the promise of data_into: the data words copied to the buffer; nothing where a row is missing
+-- the promise of data_into, and of data_of for a block from the first word on: the data words copied to the buffer; nothing where a row is missing
 pub record CopiesData (shape : Shape) (words : List ℕ) (at s : ℕ) (buffer after : List ℕ) : Type 0 where
   pub there : at + before shape * s < length words → after ≡ dataInto shape (lying shape words at s) buffer
   pub missing : (at + before shape * s < length words → ⊥) → after ≡ buffer

@@ -1,7 +1,7 @@
 // The valid block for a list of data words, and the data words of a block.
 ghost use mathlib.Core.Bool.{true};
 ghost use mathlib.Core.Path.{_≡_};
-ghost use Prim.Native.Nat.{ℕ, _+_, _*_, _-_, _≤_, _<_};
+ghost use Prim.Native.Nat.{ℕ, _+_, _*_, _-_, _^_, _≤_, _<_};
 ghost use lib.ListN.{length, getD};
 ghost use Rattle.ground.specs.Stores.{stores};
 ghost use Rattle.shape.specs.Shape.{mostRows};
@@ -12,6 +12,7 @@ use super::tables::*;
 use ground::least;
 use shape::MOST_ROWS;
 use shape::Shape;
+use shape::rows;
 use shape::rows_before;
 use sums::DIGITS;
 use sums::SUM_WORDS;
@@ -35,13 +36,7 @@ fn spread(rows: &[u8], list: &[u32], block: &mut [u32; MOST_ROWS])
 fn xor_all(sums: &[u32; SUM_WORDS]) -> u32
     ensures { λ r. ⌜ r ≡ xorAll 7 (now (sums .entry)) ⌝ }
 {
-    let mut lanes: u32 = 0;
-    let mut k = 0;
-    while k < DIGITS {
-        lanes ^= sums[k];
-        k += 1;
-    }
-    lanes
+    sums[0] ^ sums[1] ^ sums[2] ^ sums[3] ^ sums[4] ^ sums[5] ^ sums[6]
 }
 
 // Sets check rows 1, 2, 4, .. 64 to the digits' words.
@@ -78,7 +73,8 @@ pub fn encode(shape: Shape, list: &[u32]) -> [u32; MOST_ROWS]
 
 // Copies the words of the listed rows, s apart from `at` on, in order, as many as the buffer has room for.
 fn copy_rows(rows: &[u8], words: &[u32], at: usize, s: usize, buffer: &mut [u32])
-    requires { ⌜ ((k : ℕ) → k < length (now rows) → (1 ≤ getD (now rows) k 0) × (at + (getD (now rows) k 0 - 1) * s < length (now words))) ⌝ }
+    requires { ⌜ (at < 2 ^ 32) × (s < 2 ^ 32)
+        × ((k : ℕ) → k < length (now rows) → (1 ≤ getD (now rows) k 0) × (at + (getD (now rows) k 0 - 1) * s < length (now words))) ⌝ }
     ensures { λ r.
         ⌜ now (buffer .exit)
         ≡ stores (now (buffer .entry)) (λ k. k) (λ k. getD (now (words .entry)) (at + (getD (now (rows .entry)) k 0 - 1) * s) 0)
@@ -88,7 +84,7 @@ fn copy_rows(rows: &[u8], words: &[u32], at: usize, s: usize, buffer: &mut [u32]
     let mut k = 0;
     while k < n {
         let p = rows[k] as usize;
-        buffer[k] = words[at + (p - 1) * s];
+        buffer[k] = words[at + p * s - s];
         k += 1;
     }
 }
@@ -103,6 +99,20 @@ pub fn data_into(shape: Shape, words: &[u32], at: u32, s: u32, buffer: &mut [u32
         return;
     }
     // The data rows of shape 1 are the first of shape 2's: one loop serves both.
-    let rows = DATA_TWO;
-    copy_rows(&rows[..shape::words(shape)], words, first, step, buffer);
+    let table = DATA_TWO;
+    copy_rows(&table[..shape::words(shape)], words, first, step, buffer);
+}
+
+// The same as `data_into`, of a gathered block: its rows are neighbours, from the first word on.
+pub fn data_of(shape: Shape, block: &[u32], buffer: &mut [u32])
+    ensures { λ r. ⌜ CopiesData shape (now (block .entry)) 0 1 (now (buffer .entry)) (now (buffer .exit)) ⌝ }
+{
+    if block.len() < rows(shape) {
+        return;
+    }
+    // Each table whole, so that the compiler knows shape 1's few rows by number.
+    match shape {
+        Shape::One => copy_rows(&DATA_ONE, block, 0, 1, buffer),
+        Shape::Two => copy_rows(&DATA_TWO, block, 0, 1, buffer),
+    }
 }

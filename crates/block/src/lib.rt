@@ -4,6 +4,7 @@ mod mending;
 mod tables;
 
 pub use coding::data_into;
+pub use coding::data_of;
 pub use coding::encode;
 pub use mending::decide;
 

@@ -20,13 +20,7 @@ use sums::SUM_WORDS;
 fn any(sums: &[u32; SUM_WORDS]) -> u32
     ensures { λ r. ⌜ r ≡ anyOf 7 (now (sums .entry)) ⌝ }
 {
-    let mut lanes: u32 = 0;
-    let mut k = 0;
-    while k < DIGITS {
-        lanes |= sums[k];
-        k += 1;
-    }
-    lanes
+    sums[0] | sums[1] | sums[2] | sums[3] | sums[4] | sums[5] | sums[6]
 }
 
 // The lanes with an odd count of ones.

@@ -94,6 +94,9 @@ one-data-into shape list at s buffer p q =
     (λ h. let no : at + before shape * s < length list → ⊥ = λ l. omega arith in same (p .missing no) (q .missing no))
     (split-below (at + before shape * s) (length list))
 
+pub one-data-of : (shape : Shape) (block buffer : List ℕ) {a b : List ℕ} → CopiesData shape block 0 1 buffer a → CopiesData shape block 0 1 buffer b → a ≡ b
+one-data-of shape block buffer p q = one-data-into shape block 0 1 buffer p q
+
 -- ---- layout
 
 pub one-blocks : (layout : Layout) {a b : ℕ} → CountsBlocks layout a → CountsBlocks layout b → a ≡ b

@@ -46,11 +46,11 @@ module _ (image : List ℕ) (shape : Shape) (at s : ℕ) where
   -- what is decided of the rows that are read, by their sums
   pub decided-there : {gathered mended sums : List ℕ} {v : Verdict} → sums ≡ sumsOf shape (strideRead image at s blank (rows shape))
       → gathered ≡ strideRead image at s blank (rows shape) → Decides shape gathered sums v mended
-      → (v ≡ verdictOf shape gathered) × (mended ≡ mendedBlock shape gathered) × (length mended ≡ 72)
-  decided-there {gathered = found} are took d =
-      let long : rows shape ≤ length found = rw took read-long in
-      let e = decided shape found long (are ∙ ap (sumsOf shape) (sym took)) d in
-      (e .0, e .1, ap length (e .1) ∙ length-mended shape found ∙ ap length took ∙ read-size)
+      → (v ≡ verdictOf shape (strideRead image at s blank (rows shape))) × (mended ≡ mendedBlock shape (strideRead image at s blank (rows shape)))
+  decided-there are took d = decided shape (strideRead image at s blank (rows shape)) read-long are (rw took at d)
+
+  pub mended-size : {mended : List ℕ} → mended ≡ mendedBlock shape (strideRead image at s blank (rows shape)) → length mended ≡ 72
+  mended-size e = ap length e ∙ length-mended shape (strideRead image at s blank (rows shape)) ∙ read-size
 
   -- the rows that lie there are those that are read
   lying-row : SameRows shape (lying shape image at s) (strideRead image at s blank (rows shape))

@@ -1,44 +1,38 @@
 -- Four rows a turn: where they lie, and four stores more. Assumes nothing.
-use Prim.Native.Nat.{ℕ, suc, _+_, _*_, _%_}
+use Prim.Native.Nat.{ℕ, _+_, _*_, _%_, _≤_}
 use mathlib.Core.List.{List}
-use mathlib.Core.Path.{_≡_, refl, sym, ap, _∙_}
+use mathlib.Core.Path.{_≡_, refl}
 use native.Mathlib.Omega.{arith}
-use native.Mathlib.Nat.{suc-mul}
-use native.Mathlib.Numerals.{add-one}
-use lib.ListN.{set}
+use native.Mathlib.Nat.{add-zero, zero-mul, one-mul, add-mul}
+use native.Mathlib.Numerals.{add-one, towards-suc}
+use lib.ListN.{getD, set}
 use Rattle.ground.specs.Stores.{stores}
 use Rattle.shape.specs.declared.Shape.{Shape}
 use Rattle.shape.specs.declared.Shape.the-variants.{One, Two}
 use Rattle.shape.specs.Shape.{rows}
-use Rattle.store.specs.Inner.{Inside}
+use Rattle.store.specs.Inner.{Inside, FourInside, fourCopied}
 
-module _ (k s : ℕ) where
-  pub on-1 : suc k * s ≡ k * s + s
-  on-1 = suc-mul k s
+module _ (at s k : ℕ) {i : ℕ} (there : i ≡ at + k * s) where
+  -- the rows from the k-th on
+  pub along : (j : ℕ) → i + j * s ≡ at + (k + j) * s
+  along j = omega (arith, add-mul k j s)
 
-  pub on-2 : suc (suc k) * s ≡ k * s + 2 * s
-  on-2 = let e = suc-mul (suc k) s in omega (arith, on-1)
-
-  pub on-3 : suc (suc (suc k)) * s ≡ k * s + 3 * s
-  on-3 = let e = suc-mul (suc (suc k)) s in omega (arith, on-2)
-
-  pub on-4 : (k + 4) * s ≡ k * s + 4 * s
-  on-4 =
-      let e = suc-mul (suc (suc (suc k))) s in
-      ap (λ (j : ℕ). j * s) (let f : k + 4 ≡ suc (suc (suc (suc k))) = omega arith in f) ∙ omega (arith, on-3)
+  -- where four rows are left they lie in the image
+  pub four-inside : {len rows : ℕ} → Inside len rows at s → k + 4 ≤ rows → FourInside len i s
+  four-inside h left = omega (arith, h .1 (k + 3) (omega arith), along 3)
 
 -- one store more than k, of what is to be stored where it is
 pub one-store : (d : List ℕ) (f v : ℕ → ℕ) (k : ℕ) {l : List ℕ} {f0 v0 : ℕ} → l ≡ stores d f v k → f0 ≡ f k → v0 ≡ v k → set l f0 v0 ≡ stores d f v (k + 1)
 unfolding stores
-one-store d f v k e p q = rw (e, p, q) (sym (ap (stores d f v) (add-one k)))
+one-store d f v k e p q = rw (e, p, q, add-one)
 
--- four stores more than k, of what is to be stored where it is
-pub four-stores : (d : List ℕ) (f v : ℕ → ℕ) (k : ℕ) {l : List ℕ} {f0 f1 f2 f3 v0 v1 v2 v3 : ℕ} → l ≡ stores d f v k → f0 ≡ f k → f1 ≡ f (suc k)
-    → f2 ≡ f (suc (suc k)) → f3 ≡ f (suc (suc (suc k))) → v0 ≡ v k → v1 ≡ v (suc k) → v2 ≡ v (suc (suc k)) → v3 ≡ v (suc (suc (suc k)))
-    → set (set (set (set l f0 v0) f1 v1) f2 v2) f3 v3 ≡ stores d f v (k + 4)
+-- four stores more than n, of words that lie as the stores ask
+pub four-stores : (given d : List ℕ) (h f : ℕ → ℕ) (n i s k t : ℕ) {l : List ℕ} → l ≡ stores d f (λ j. getD given (h j) 0) n
+    → ((j : ℕ) → i + j * s ≡ h (n + j)) → ((j : ℕ) → k + j * t ≡ f (n + j)) → fourCopied given i s l k t ≡ stores d f (λ j. getD given (h j) 0) (n + 4)
 unfolding stores
-four-stores d f v k e p0 p1 p2 p3 q0 q1 q2 q3 =
-    rw (e, p0, p1, p2, p3, q0, q1, q2, q3) (sym (ap (stores d f v) (let g : k + 4 ≡ suc (suc (suc (suc k))) = omega arith in g)))
+four-stores given d h f n i s k t e p q =
+    rw (p 3, q 3, p 2, q 2, simp one-mul at (p 1), simp one-mul at (q 1), simp (zero-mul, add-zero) at (p 0), simp (zero-mul, add-zero) at (q 0), e)
+    (simp towards-suc)
 
 -- the rows of a shape are whole turns
 pub whole-turns : (shape : Shape) → rows shape % 4 ≡ 0

@@ -1,10 +1,10 @@
 // A block's rows between the image and an array: gathered, and scattered. Neighbours are copied many at a time, others four a turn.
 // A shared image is lent on as `&*image`, which the compiler then passes in registers (docs/SPEED.md).
 ghost use mathlib.Core.Path.{_≡_};
-ghost use Prim.Native.Nat.{_%_, _≤_};
+ghost use Prim.Native.Nat.{_+_, _%_, _≤_, _<_};
 ghost use lib.ListN.{length};
 ghost use Rattle.shape.specs.Shape.{mostRows, rows};
-ghost use Rattle.store.specs.Inner.{Inside, strideRead, strideWrite};
+ghost use Rattle.store.specs.Inner.{Inside, FourInside, fourCopied, strideRead, strideWrite};
 use shape::MOST_ROWS;
 use shape::Shape;
 use shape::rows;
@@ -19,6 +19,17 @@ fn take_beside(image: &[u32], rows: usize, at: usize, block: &mut [u32; MOST_ROW
     }
 }
 
+// Four rows, the words at `i`, `i + s`, .., into the block's from `k` on.
+fn take_four(image: &[u32], i: usize, s: usize, block: &mut [u32; MOST_ROWS], k: usize)
+    requires { ⌜ (k + 3 < mostRows) × FourInside (length (now image)) i s ⌝ }
+    ensures { λ r. ⌜ now (block .exit) ≡ fourCopied (now (image .entry)) i s (now (block .entry)) k 1 ⌝ }
+{
+    block[k] = image[i];
+    block[k + 1] = image[i + s];
+    block[k + 2] = image[i + 2 * s];
+    block[k + 3] = image[i + 3 * s];
+}
+
 // The words at `at`, `at + s`, `at + 2 s`, .., `rows` of them, into the first of the block.
 fn take_apart(image: &[u32], rows: usize, at: usize, s: usize, block: &mut [u32; MOST_ROWS])
     requires { ⌜ (rows ≤ mostRows) × (rows % 4 ≡ 0) × Inside (length (now image)) rows at s ⌝ }
@@ -27,10 +38,7 @@ fn take_apart(image: &[u32], rows: usize, at: usize, s: usize, block: &mut [u32;
     let mut i = at;
     let mut k = 0;
     while k < rows {
-        block[k] = image[i];
-        block[k + 1] = image[i + s];
-        block[k + 2] = image[i + 2 * s];
-        block[k + 3] = image[i + 3 * s];
+        take_four(&*image, i, s, block, k);
         i += 4 * s;
         k += 4;
     }
@@ -46,6 +54,17 @@ fn put_beside(image: &mut [u32], rows: usize, at: usize, block: &[u32; MOST_ROWS
     }
 }
 
+// Four rows of the block, from `k` on, to the words at `i`, `i + s`, ..
+fn put_four(image: &mut [u32], i: usize, s: usize, block: &[u32; MOST_ROWS], k: usize)
+    requires { ⌜ (k + 3 < mostRows) × FourInside (length (now image)) i s ⌝ }
+    ensures { λ r. ⌜ now (image .exit) ≡ fourCopied (now (block .entry)) k 1 (now (image .entry)) i s ⌝ }
+{
+    image[i] = block[k];
+    image[i + s] = block[k + 1];
+    image[i + 2 * s] = block[k + 2];
+    image[i + 3 * s] = block[k + 3];
+}
+
 // The first `rows` words of the block at `at`, `at + s`, `at + 2 s`, ..
 fn put_apart(image: &mut [u32], rows: usize, at: usize, s: usize, block: &[u32; MOST_ROWS])
     requires { ⌜ (rows ≤ mostRows) × (rows % 4 ≡ 0) × Inside (length (now image)) rows at s ⌝ }
@@ -54,10 +73,7 @@ fn put_apart(image: &mut [u32], rows: usize, at: usize, s: usize, block: &[u32; 
     let mut i = at;
     let mut k = 0;
     while k < rows {
-        image[i] = block[k];
-        image[i + s] = block[k + 1];
-        image[i + 2 * s] = block[k + 2];
-        image[i + 3 * s] = block[k + 3];
+        put_four(image, i, s, block, k);
         i += 4 * s;
         k += 4;
     }

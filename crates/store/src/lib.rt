@@ -1,6 +1,7 @@
 // Blocks in a lent image: the fresh image, write, read and visit.
 mod clearing;
 mod copies;
+mod doubt;
 mod reading;
 mod visiting;
 mod writing;

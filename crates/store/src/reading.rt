@@ -1,7 +1,7 @@
 // Read: the mended data of a block, copied to a lent buffer, straight from the image where the block is valid.
 ghost use Rattle.store.specs.Read.{Reads};
 use super::Answer;
-use super::copies::gather;
+use super::doubt::in_doubt;
 use block::Verdict;
 use layout::Layout;
 use layout::Site;
@@ -24,12 +24,11 @@ pub fn read(image: &[u32], layout: Layout, block: u32, buffer: &mut [u32]) -> An
                 return Answer::Found(Verdict::Clean);
             }
             let mut rows = [0u32; MOST_ROWS];
-            gather(image, shape, at, s as usize, &mut rows);
-            let verdict = block::decide(shape, &mut rows, &sums);
+            let verdict = in_doubt(image, shape, at, s, &sums, &mut rows);
             if let Verdict::Lost(_) = verdict {
                 return Answer::Found(verdict);
             }
-            block::data_into(shape, &rows, 0, 1, buffer);
+            block::data_of(shape, &rows, buffer);
             Answer::Found(verdict)
         }
     }

@@ -8,8 +8,8 @@ ghost use Rattle.sums.specs.Sums.{sumsOf};
 ghost use Rattle.store.specs.Inner.{Inside, strideRead, strideWrite};
 ghost use Rattle.store.specs.Visit.{Visits, VisitsAccepted};
 use super::Answer;
-use super::copies::gather;
 use super::copies::scatter;
+use super::doubt::in_doubt;
 use block::Verdict;
 use layout::Layout;
 use layout::Site;
@@ -17,7 +17,7 @@ use shape::MOST_ROWS;
 use shape::Shape;
 use sums::SUM_WORDS;
 
-// A block in doubt, with its sums: gathered, decided whole, and stored only where it was mended.
+// A block in doubt, with its sums: decided whole, and stored only where it was mended.
 fn mend(image: &mut [u32], shape: Shape, at: usize, s: u32, sums: &[u32; SUM_WORDS]) -> Verdict
     requires { ⌜ Inside (length (now image)) (rows shape) at s × (now sums ≡ sumsOf shape (strideRead (now image) at s blank (rows shape))) ⌝ }
     ensures verdict { λ r. ⌜ r ≡ verdictOf shape (strideRead (now (image .entry)) at s blank (rows shape)) ⌝ }
@@ -25,8 +25,7 @@ fn mend(image: &mut [u32], shape: Shape, at: usize, s: u32, sums: &[u32; SUM_WOR
         strideWrite (now (image .entry)) at s (mendedBlock shape (strideRead (now (image .entry)) at s blank (rows shape))) (rows shape) ⌝ }
 {
     let mut rows = [0u32; MOST_ROWS];
-    gather(image, shape, at, s as usize, &mut rows);
-    let verdict = block::decide(shape, &mut rows, sums);
+    let verdict = in_doubt(&*image, shape, at, s, sums, &mut rows);
     if let Verdict::Mended(_) = verdict {
         scatter(image, shape, at, s as usize, &rows);
         return verdict;

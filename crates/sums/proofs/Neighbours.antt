@@ -11,69 +11,70 @@ use borrow.Author.Tests.{le-leb, lt-leb}
 use Rattle.lane.specs.Bit.{bit, _⊕_, pick}
 use Rattle.ground.specs.Stores.{stores}
 use Rattle.shape.specs.declared.Shape.the-variants.{Two}
+use Rattle.sums.specs.declared.Running.{Running}
+use Rattle.sums.specs.declared.Column.{Column}
+use Rattle.sums.specs.declared.Endings.{Endings}
 use Rattle.sums.specs.Sums.{lying, sumsOf}
-use Rattle.sums.specs.Inner.{xorRows, Column, columnOf, inColumn, tabled}
+use Rattle.sums.specs.Inner.{xorRows, threeOf, fourOf, columnOf, inColumn, tabled, endingsOf, acrossOf}
 use Rattle.sums.proofs.RowSums.{Made, together, agree?, agreed, same-tests, same-words, one-row, no-row, rows-upto, sums-are}
 use Rattle.sums.proofs.Groups.{placed, placed-fits, placed-lies, ends, low-digit, next-digit, parities, but-last}
 
 -- ---- one column
 
 module _ (x : ℕ → ℕ) where
-  abbrev one : (q : ℕ) → 1 ≤ q → q ≤ 17 → Made 17 x (λ p. eqb p q) (x q)
+  one : (q : ℕ) → 1 ≤ q → q ≤ 17 → Made 17 x (λ p. eqb p q) (x q)
   one q f l = record { is = one-row q 17 x f l }
 
-  abbrev pair : (q : ℕ) → 1 ≤ q → q ≤ 16 → Made 17 x (λ p. eqb p q ⊕ eqb p (suc q)) (bitXor (x q) (x (suc q)))
-  pair q f l = together (one q f (omega arith)) (one (suc q) (omega arith) (omega arith))
+  -- groups q + 1 to q + 3, and q with them
+  module _ (q : ℕ) (h : q ≤ 12) where
+    abbrev rest : Running
+    rest = threeOf (x (q + 1)) (x (q + 2)) (x (q + 3))
+
+    low-made : Made 17 x (λ p. eqb p (q + 1) ⊕ eqb p (q + 3)) (rest .low)
+    low-made = together (one (q + 1) (omega arith) (omega arith)) (one (q + 3) (omega arith) (omega arith))
+
+    high-made : Made 17 x (λ p. eqb p (q + 2) ⊕ eqb p (q + 3)) (rest .high)
+    high-made = together (one (q + 2) (omega arith) (omega arith)) (one (q + 3) (omega arith) (omega arith))
+
+    three-made : Made 17 x (λ p. eqb p (q + 1) ⊕ (eqb p (q + 2) ⊕ eqb p (q + 3))) (rest .all)
+    three-made = together (one (q + 1) (omega arith) (omega arith)) high-made
+
+    four-made : 1 ≤ q → Made 17 x (λ p. eqb p q ⊕ (eqb p (q + 1) ⊕ (eqb p (q + 2) ⊕ eqb p (q + 3)))) (fourOf (x q) rest .all)
+    four-made f = together (one q f (omega arith)) three-made
+
+  last-made : Made 17 x (λ p. eqb p 16 ⊕ eqb p 17) (bitXor (x 16) (x 17))
+  last-made = together (one 16 (lit≤ tt) (lit≤ tt)) (one 17 (lit≤ tt) (lit≤ tt))
 
   pub column-0 : columnOf x .d2 ≡ xorRows (bit 0) 17 x
   unfolding agree? bit
   column-0 =
       agreed (bit 0)
-      (together
-      (together
-      (together
-      (together
-      (together (together (together (together (one 1 (lit≤ tt) (lit≤ tt)) (one 3 (lit≤ tt) (lit≤ tt))) (one 5 (lit≤ tt) (lit≤ tt))) (one 7 (lit≤ tt) (lit≤ tt)))
-      (one 9 (lit≤ tt) (lit≤ tt)))
-      (one 11 (lit≤ tt) (lit≤ tt)))
-      (one 13 (lit≤ tt) (lit≤ tt)))
-      (one 15 (lit≤ tt) (lit≤ tt)))
-      (one 17 (lit≤ tt) (lit≤ tt))) refl
+      (together (together (together (together (low-made 0 (lit≤ tt)) (low-made 4 (lit≤ tt))) (low-made 8 (lit≤ tt))) (low-made 12 (lit≤ tt))) (one 17 (lit≤ tt) (lit≤ tt)))
+      refl
 
   pub column-1 : columnOf x .d3 ≡ xorRows (bit 1) 17 x
   unfolding agree? bit
-  column-1 =
-      agreed (bit 1)
-      (together (together (together (pair 2 (lit≤ tt) (lit≤ tt)) (pair 6 (lit≤ tt) (lit≤ tt))) (pair 10 (lit≤ tt) (lit≤ tt))) (pair 14 (lit≤ tt) (lit≤ tt)))
-      refl
+  column-1 = agreed (bit 1) (together (together (together (high-made 0 (lit≤ tt)) (high-made 4 (lit≤ tt))) (high-made 8 (lit≤ tt))) (high-made 12 (lit≤ tt))) refl
 
   pub column-2 : columnOf x .d4 ≡ xorRows (bit 2) 17 x
   unfolding agree? bit
-  column-2 =
-      agreed (bit 2)
-      (together (together (pair 4 (lit≤ tt) (lit≤ tt)) (pair 6 (lit≤ tt) (lit≤ tt))) (together (pair 12 (lit≤ tt) (lit≤ tt)) (pair 14 (lit≤ tt) (lit≤ tt))))
-      refl
+  column-2 = agreed (bit 2) (together (four-made 4 (lit≤ tt) (lit≤ tt)) (four-made 12 (lit≤ tt) (lit≤ tt))) refl
 
   pub column-3 : columnOf x .d5 ≡ xorRows (bit 3) 17 x
   unfolding agree? bit
-  column-3 =
-      agreed (bit 3)
-      (together (together (pair 8 (lit≤ tt) (lit≤ tt)) (pair 10 (lit≤ tt) (lit≤ tt))) (together (pair 12 (lit≤ tt) (lit≤ tt)) (pair 14 (lit≤ tt) (lit≤ tt))))
-      refl
+  column-3 = agreed (bit 3) (together (four-made 8 (lit≤ tt) (lit≤ tt)) (four-made 12 (lit≤ tt) (lit≤ tt))) refl
 
   pub column-4 : columnOf x .d6 ≡ xorRows (bit 4) 17 x
   unfolding agree? bit
-  column-4 = agreed (bit 4) (pair 16 (lit≤ tt) (lit≤ tt)) refl
+  column-4 = agreed (bit 4) last-made refl
 
   pub column-all : columnOf x .all ≡ xorRows (λ p. true) 17 x
   unfolding agree?
   column-all =
       agreed (λ p. true)
       (together
-      (together
-      (together (together (one 1 (lit≤ tt) (lit≤ tt)) (pair 2 (lit≤ tt) (lit≤ tt))) (together (pair 4 (lit≤ tt) (lit≤ tt)) (pair 6 (lit≤ tt) (lit≤ tt))))
-      (together (together (pair 8 (lit≤ tt) (lit≤ tt)) (pair 10 (lit≤ tt) (lit≤ tt))) (together (pair 12 (lit≤ tt) (lit≤ tt)) (pair 14 (lit≤ tt) (lit≤ tt)))))
-      (pair 16 (lit≤ tt) (lit≤ tt))) refl
+      (together (together (three-made 0 (lit≤ tt)) (four-made 8 (lit≤ tt) (lit≤ tt))) (together (four-made 4 (lit≤ tt) (lit≤ tt)) (four-made 12 (lit≤ tt) (lit≤ tt))))
+      last-made) refl
 
 -- ---- columns as rows: those that end alike, from group 1 on, whose group passes the test
 
@@ -227,37 +228,23 @@ module _ (words : List ℕ) (at : ℕ) (fits : (k : ℕ) → getD words k 0 < 2 
   -- the eight words, from the tables of the columns
   module _ {table top all : List ℕ} (et : table ≡ tabled (replicate 16 0) x 4) (ep : top ≡ stores (replicate 4 0) (λ c. c) (λ c. x c .d6) 4)
       (ea : all ≡ stores (replicate 4 0) (λ c. c) (λ c. x c .all) 4) where
-    abbrev t : ℕ → ℕ
-    t k = getD table k 0
-
-    four-of : {a b c d a′ b′ c′ d′ : ℕ} → a ≡ a′ → b ≡ b′ → c ≡ c′ → d ≡ d′ → bitXor (bitXor (bitXor a b) c) d ≡ bitXor (bitXor (bitXor a′ b′) c′) d′
-    four-of p q r s = ap₂ bitXor (ap₂ bitXor (ap₂ bitXor p q) r) s
-
-    at-table : (k : ℕ) → t k ≡ getD (tabled (replicate 16 0) x 4) k 0
-    at-table k = ap (λ (l : List ℕ). getD l k 0) et
-
-    at-top : (k : ℕ) → getD top k 0 ≡ getD (stores (replicate 4 0) (λ c. c) (λ c. x c .d6) 4) k 0
-    at-top k = ap (λ (l : List ℕ). getD l k 0) ep
-
     at-all : (k v : ℕ) → bitXor (getD all k 0) v ≡ bitXor (getD (stores (replicate 4 0) (λ c. c) (λ c. x c .all) 4) k 0) v
     at-all k v = ap (λ (l : List ℕ). bitXor (getD l k 0) v) ea
 
-    pub beside-sums : let e00 : ℕ = bitXor (getD all 0 0) (getD words (at + 71) 0) in
-        let e01 : ℕ = bitXor (getD all 1 0) (getD words at 0) in
-        let e10 : ℕ = bitXor (getD all 2 0) (getD words (at + 1) 0) in
-        let e11 : ℕ = bitXor (getD all 3 0) (getD words (at + 2) 0) in
-        bitXor e01 e11 ∷ bitXor e10 e11 ∷ bitXor (bitXor (bitXor (t 0) (t 4)) (t 8)) (t 12) ∷ bitXor (bitXor (bitXor (t 1) (t 5)) (t 9)) (t 13)
-        ∷ bitXor (bitXor (bitXor (t 2) (t 6)) (t 10)) (t 14) ∷ bitXor (bitXor (bitXor (t 3) (t 7)) (t 11)) (t 15)
-        ∷ bitXor (bitXor (bitXor (getD top 0 0) (getD top 1 0)) (getD top 2 0)) (getD top 3 0) ∷ bitXor (bitXor (bitXor e01 e11) e00) e10 ∷ []
+    pub beside-sums : {ended : Endings} {d2 d3 d4 d5 : ℕ} → ended ≡ endingsOf words at all → d2 ≡ acrossOf table 0 → d3 ≡ acrossOf table 1
+        → d4 ≡ acrossOf table 2 → d5 ≡ acrossOf table 3
+        → bitXor (ended .e01) (ended .e11) ∷ bitXor (ended .e10) (ended .e11) ∷ d2 ∷ d3 ∷ d4 ∷ d5
+        ∷ bitXor (bitXor (bitXor (getD top 0 0) (getD top 1 0)) (getD top 2 0)) (getD top 3 0)
+        ∷ bitXor (bitXor (bitXor (ended .e01) (ended .e11)) (ended .e00)) (ended .e10) ∷ []
         ≡ sumsOf Two (lying Two words at 1)
     unfolding tabled stores
-    beside-sums =
-        let a = at-all 0 (getD words (at + 71) 0) ∙ ends-00 in
-        let b = at-all 1 (getD words at 0) ∙ ends-01 in
-        let c = at-all 2 (getD words (at + 1) 0) ∙ ends-10 in
-        let d = at-all 3 (getD words (at + 2) 0) ∙ ends-11 in
+    beside-sums e e2 e3 e4 e5 =
+        let a = ap (λ (r : Endings). r .e00) e ∙ at-all 0 (getD words (at + 71) 0) ∙ ends-00 in
+        let b = ap (λ (r : Endings). r .e01) e ∙ at-all 1 (getD words at 0) ∙ ends-01 in
+        let c = ap (λ (r : Endings). r .e10) e ∙ at-all 2 (getD words (at + 1) 0) ∙ ends-10 in
+        let d = ap (λ (r : Endings). r .e11) e ∙ at-all 3 (getD words (at + 2) 0) ∙ ends-11 in
+        let across : (k : ℕ) → acrossOf table k ≡ acrossOf (tabled (replicate 16 0) x 4) k = λ k. ap (λ (l : List ℕ). acrossOf l k) et in
+        let tops = ap (λ (l : List ℕ). bitXor (bitXor (bitXor (getD l 0 0) (getD l 1 0)) (getD l 2 0)) (getD l 3 0)) ep in
         sums-are Two (lying Two words at 1) w (placed-fits words at 1 fits) (placed-lies Two words at 1) (low-digit 72 w a b c d ∙ but-last Two w .0)
-        (next-digit 72 w a b c d ∙ but-last Two w .1) (four-of (at-table 0) (at-table 4) (at-table 8) (at-table 12) ∙ beside-2)
-        (four-of (at-table 1) (at-table 5) (at-table 9) (at-table 13) ∙ beside-3) (four-of (at-table 2) (at-table 6) (at-table 10) (at-table 14) ∙ beside-4)
-        (four-of (at-table 3) (at-table 7) (at-table 11) (at-table 15) ∙ beside-5) (four-of (at-top 0) (at-top 1) (at-top 2) (at-top 3) ∙ beside-6)
-        (parities 72 w a b c d)
+        (next-digit 72 w a b c d ∙ but-last Two w .1) (e2 ∙ across 0 ∙ beside-2) (e3 ∙ across 1 ∙ beside-3) (e4 ∙ across 2 ∙ beside-4)
+        (e5 ∙ across 3 ∙ beside-5) (tops ∙ beside-6) (parities 72 w a b c d)

@@ -9,6 +9,9 @@ use Rattle.lane.specs.Bit.{pick}
 use Rattle.shape.specs.declared.Shape.{Shape}
 use Rattle.shape.specs.declared.Shape.the-variants.{One, Two}
 use Rattle.ground.specs.Choice.{ifZero}
+use Rattle.sums.specs.declared.Running.{Running}
+use Rattle.sums.specs.declared.Column.{Column}
+use Rattle.sums.specs.declared.Endings.{Endings}
 
 -- the exclusive or of the words of those of the rows 1 to n that pass a test
 unfoldable pub xorRows : (ℕ → Bool) → ℕ → (ℕ → ℕ) → ℕ
@@ -40,44 +43,57 @@ highDigits shape upto =
     let d3 : ℕ = bitXor (bitXor (bitXor (bitXor (to 1) (to 5)) (to 9)) (to 13)) d4 in
     ofShape shape d3 d4 d5 (bitXor (to 15) (to 17))
 
--- what a column of 17 words gives: digits 2 to 6 of the sums, and the whole
-pub record Column : Type 0 where
-  pub d2 : ℕ
-  pub d3 : ℕ
-  pub d4 : ℕ
-  pub d5 : ℕ
-  pub d6 : ℕ
-  pub all : ℕ
+-- ---- a column of 17 words, one a group
+
+-- groups 4 m + 1 to 4 m + 3: those with the last digit of a group's number, those with the one before it, and all
+abbrev pub threeOf : (x1 x2 x3 : ℕ) → Running
+threeOf x1 x2 x3 = record { low = bitXor x1 x3; high = bitXor x2 x3; all = bitXor x1 (bitXor x2 x3) }
+
+-- group 4 m with them
+abbrev pub fourOf : (x0 : ℕ) → Running → Running
+fourOf x0 rest = record { low = rest .low; high = rest .high; all = bitXor x0 (rest .all) }
+
+-- what a column gives, from groups 1 to 3, 4 to 7, 8 to 11, 12 to 15, 16 and 17
+abbrev pub columnFrom : (to3 to7 to11 to15 : Running) (x16 x17 : ℕ) → Column
+columnFrom to3 to7 to11 to15 x16 x17 =
+    let d4 : ℕ = bitXor (to7 .all) (to15 .all) in
+    let d6 : ℕ = bitXor x16 x17 in
+    record {
+      d2 = bitXor (bitXor (bitXor (bitXor (to3 .low) (to7 .low)) (to11 .low)) (to15 .low)) x17;
+      d3 = bitXor (bitXor (bitXor (to3 .high) (to7 .high)) (to11 .high)) (to15 .high);
+      d4 = d4;
+      d5 = bitXor (to11 .all) (to15 .all);
+      d6 = d6;
+      all = bitXor (bitXor (bitXor (to3 .all) (to11 .all)) d4) d6;
+    }
 
 abbrev pub columnOf : (ℕ → ℕ) → Column
 columnOf x =
-    let p2 : ℕ = bitXor (x 2) (x 3) in
-    let p4 : ℕ = bitXor (x 4) (x 5) in
-    let p6 : ℕ = bitXor (x 6) (x 7) in
-    let p8 : ℕ = bitXor (x 8) (x 9) in
-    let p10 : ℕ = bitXor (x 10) (x 11) in
-    let p12 : ℕ = bitXor (x 12) (x 13) in
-    let p14 : ℕ = bitXor (x 14) (x 15) in
-    let p16 : ℕ = bitXor (x 16) (x 17) in
-    let q4 : ℕ = bitXor p4 p6 in
-    let q12 : ℕ = bitXor p12 p14 in
-    let q8 : ℕ = bitXor (bitXor p8 p10) q12 in
-    let odd7 : ℕ = bitXor (bitXor (bitXor (x 1) (x 3)) (x 5)) (x 7) in
-    record {
-      d2 = bitXor (bitXor (bitXor (bitXor (bitXor odd7 (x 9)) (x 11)) (x 13)) (x 15)) (x 17);
-      d3 = bitXor (bitXor (bitXor p2 p6) p10) p14;
-      d4 = bitXor q4 q12;
-      d5 = q8;
-      d6 = p16;
-      all = bitXor (bitXor (bitXor (bitXor (x 1) p2) q4) q8) p16;
-    }
+    let from : ℕ → Running = λ q. fourOf (x q) (threeOf (x (q + 1)) (x (q + 2)) (x (q + 3))) in
+    columnFrom (threeOf (x 1) (x 2) (x 3)) (from 4) (from 8) (from 12) (x 16) (x 17)
 
 -- the word of column c in group q, of rows that are neighbours
 abbrev pub inColumn : List ℕ → (at c q : ℕ) → ℕ
 inColumn words at c q = getD words (at + (4 * q - 1) + c) 0
 
--- digits 2 to 5 of n columns in a table, four words a column
+-- digits 2 to 5 of column c in a table, four words a column; and of n columns
+abbrev pub laid : List ℕ → ℕ → Column → List ℕ
+laid table c column = set (set (set (set table (4 * c) (column .d2)) (4 * c + 1) (column .d3)) (4 * c + 2) (column .d4)) (4 * c + 3) (column .d5)
+
 unfoldable pub tabled : List ℕ → (ℕ → Column) → ℕ → List ℕ
 tabled table f zero = table
-tabled table f (suc c) =
-    set (set (set (set (tabled table f c) (4 * c) (f c .d2)) (4 * c + 1) (f c .d3)) (4 * c + 2) (f c .d4)) (4 * c + 3) (f c .d5)
+tabled table f (suc c) = laid (tabled table f c) c (f c)
+
+-- rows 1 to 3 and the last, each with the column that ends as it does
+abbrev pub endingsOf : (words : List ℕ) (at : ℕ) (all : List ℕ) → Endings
+endingsOf words at all =
+    record {
+      e00 = bitXor (getD all 0 0) (getD words (at + 71) 0);
+      e01 = bitXor (getD all 1 0) (getD words at 0);
+      e10 = bitXor (getD all 2 0) (getD words (at + 1) 0);
+      e11 = bitXor (getD all 3 0) (getD words (at + 2) 0);
+    }
+
+-- what the four columns have at k, together
+abbrev pub acrossOf : List ℕ → ℕ → ℕ
+acrossOf table k = bitXor (bitXor (bitXor (getD table k 0) (getD table (k + 4) 0)) (getD table (k + 8) 0)) (getD table (k + 12) 0)

@@ -3,11 +3,11 @@
 // those before them.
 ghost use mathlib.Core.Path.{_≡_};
 ghost use Prim.Native.Nat.{_+_, _<_};
-ghost use lib.ListN.{length};
+ghost use lib.ListN.{length, getD, set};
 ghost use Rattle.shape.specs.declared.Shape.the-variants.{Two};
 ghost use Rattle.ground.specs.Stores.{stores};
 ghost use Rattle.sums.specs.Sums.{lying, sumsOf, Looks};
-ghost use Rattle.sums.specs.Inner.{Kept, highDigits, columnOf, inColumn, tabled};
+ghost use Rattle.sums.specs.Inner.{Kept, highDigits, threeOf, fourOf, columnFrom, columnOf, inColumn, laid, tabled, endingsOf, acrossOf};
 use shape::Shape;
 use shape::rows;
 use shape::rows_before;
@@ -82,8 +82,99 @@ fn sums_apart(shape: Shape, words: &[u32], at: u32, s: u32, sums: &mut [u32; SUM
     )
 }
 
+// Groups running of one column: those with the last digit of a group's number, those with the one before it, and all.
+struct Running {
+    low: u32,
+    high: u32,
+    all: u32,
+}
+
+// The rows of a block by how their numbers end in binary.
+struct Endings {
+    e00: u32,
+    e01: u32,
+    e10: u32,
+    e11: u32,
+}
+
+// What a column gives: digits 2 to 6 of the sums, and the whole.
+struct Column {
+    d2: u32,
+    d3: u32,
+    d4: u32,
+    d5: u32,
+    d6: u32,
+    all: u32,
+}
+
+// Groups 4 m + 1 to 4 m + 3 of column c, each from the place of its first row on.
+fn three(words: &[u32], i1: usize, i2: usize, i3: usize, c: usize) -> Running
+    requires { ⌜ (i1 + c < length (now words)) × (i2 + c < length (now words)) × (i3 + c < length (now words)) ⌝ }
+    ensures { λ r. ⌜ r ≡ threeOf (getD (now (words .entry)) (i1 + c) 0) (getD (now (words .entry)) (i2 + c) 0) (getD (now (words .entry)) (i3 + c) 0) ⌝ }
+{
+    let x1 = words[i1 + c];
+    let x2 = words[i2 + c];
+    let x3 = words[i3 + c];
+    let high = x2 ^ x3;
+    Running {
+        low: x1 ^ x3,
+        high,
+        all: x1 ^ high,
+    }
+}
+
+// Group 4 m of column c, from its place on, with the three that come after it.
+fn four(words: &[u32], i0: usize, c: usize, rest: Running) -> Running
+    requires { ⌜ i0 + c < length (now words) ⌝ }
+    ensures { λ r. ⌜ r ≡ fourOf (getD (now (words .entry)) (i0 + c) 0) rest ⌝ }
+{
+    Running {
+        low: rest.low,
+        high: rest.high,
+        all: words[i0 + c] ^ rest.all,
+    }
+}
+
+// Groups 1 to 17 of a column, folded: 1 to 3, 4 to 7, 8 to 11, 12 to 15, 16 and 17.
+fn folded(
+    to_3: Running,
+    to_7: Running,
+    to_11: Running,
+    to_15: Running,
+    x16: u32,
+    x17: u32,
+) -> Column
+    ensures { λ r. ⌜ r ≡ columnFrom to_3 to_7 to_11 to_15 x16 x17 ⌝ }
+{
+    let d4 = to_7.all ^ to_15.all;
+    let d6 = x16 ^ x17;
+    Column {
+        d2: to_3.low ^ to_7.low ^ to_11.low ^ to_15.low ^ x17,
+        d3: to_3.high ^ to_7.high ^ to_11.high ^ to_15.high,
+        d4,
+        d5: to_11.all ^ to_15.all,
+        d6,
+        all: to_3.all ^ to_11.all ^ d4 ^ d6,
+    }
+}
+
+// A column put in its place.
+fn lay(found: Column, c: usize, table: &mut [u32; 16], top: &mut [u32; 4], all: &mut [u32; 4])
+    requires { ⌜ c < 4 ⌝ }
+    ensures table { λ r. ⌜ now (table .exit) ≡ laid (now (table .entry)) c found ⌝ }
+    ensures top { λ r. ⌜ now (top .exit) ≡ set (now (top .entry)) c (found .d6) ⌝ }
+    ensures all { λ r. ⌜ now (all .exit) ≡ set (now (all .entry)) c (found .all) ⌝ }
+{
+    table[4 * c] = found.d2;
+    table[4 * c + 1] = found.d3;
+    table[4 * c + 2] = found.d4;
+    table[4 * c + 3] = found.d5;
+    top[c] = found.d6;
+    all[c] = found.all;
+}
+
 // Groups 1 to 17 of shape 2, by column: digits 2 to 5 of the sums, digit 6, and the whole column.
-// Written out, so that the compiler takes the four columns at once; a shorter body is unrolled, and runs three times as long.
+// Each place is written out, so that the compiler takes the four columns at once; a shorter body is unrolled, and runs three times as long.
 fn columns(words: &[u32], at: usize, table: &mut [u32; 16], top: &mut [u32; 4], all: &mut [u32; 4])
     requires { ⌜ at + 70 < length (now words) ⌝ }
     ensures table { λ r. ⌜ now (table .exit) ≡ tabled (now (table .entry)) (λ c. columnOf (inColumn (now (words .entry)) at c)) 4 ⌝ }
@@ -91,32 +182,55 @@ fn columns(words: &[u32], at: usize, table: &mut [u32; 16], top: &mut [u32; 4], 
     ensures all { λ r. ⌜ now (all .exit) ≡ stores (now (all .entry)) (λ c. c) (λ c. columnOf (inColumn (now (words .entry)) at c) .all) 4 ⌝ }
 {
     for c in 0..4 {
-        let x1 = words[at + 3 + c];
-        let x3 = words[at + 11 + c];
-        let x5 = words[at + 19 + c];
-        let x7 = words[at + 27 + c];
-        let x9 = words[at + 35 + c];
-        let x11 = words[at + 43 + c];
-        let x13 = words[at + 51 + c];
-        let x15 = words[at + 59 + c];
-        let x17 = words[at + 67 + c];
-        let p2 = words[at + 7 + c] ^ x3;
-        let p4 = words[at + 15 + c] ^ x5;
-        let p6 = words[at + 23 + c] ^ x7;
-        let p8 = words[at + 31 + c] ^ x9;
-        let p10 = words[at + 39 + c] ^ x11;
-        let p12 = words[at + 47 + c] ^ x13;
-        let p14 = words[at + 55 + c] ^ x15;
-        let p16 = words[at + 63 + c] ^ x17;
-        let q4 = p4 ^ p6;
-        let q12 = p12 ^ p14;
-        let q8 = p8 ^ p10 ^ q12;
-        table[4 * c] = x1 ^ x3 ^ x5 ^ x7 ^ x9 ^ x11 ^ x13 ^ x15 ^ x17;
-        table[4 * c + 1] = p2 ^ p6 ^ p10 ^ p14;
-        table[4 * c + 2] = q4 ^ q12;
-        table[4 * c + 3] = q8;
-        top[c] = p16;
-        all[c] = x1 ^ p2 ^ q4 ^ q8 ^ p16;
+        let to_3 = three(&*words, at + 3, at + 7, at + 11, c);
+        let to_7 = four(
+            &*words,
+            at + 15,
+            c,
+            three(&*words, at + 19, at + 23, at + 27, c),
+        );
+        let to_11 = four(
+            &*words,
+            at + 31,
+            c,
+            three(&*words, at + 35, at + 39, at + 43, c),
+        );
+        let to_15 = four(
+            &*words,
+            at + 47,
+            c,
+            three(&*words, at + 51, at + 55, at + 59, c),
+        );
+        let found = folded(
+            to_3,
+            to_7,
+            to_11,
+            to_15,
+            words[at + 63 + c],
+            words[at + 67 + c],
+        );
+        lay(found, c, table, top, all);
+    }
+}
+
+// What the four columns have at k, together.
+fn across(table: &[u32; 16], k: usize) -> u32
+    requires { ⌜ k < 4 ⌝ }
+    ensures { λ r. ⌜ r ≡ acrossOf (now (table .entry)) k ⌝ }
+{
+    table[k] ^ table[k + 4] ^ table[k + 8] ^ table[k + 12]
+}
+
+// Rows 1 to 3 and the last, each with the column that ends as it does.
+fn with_ends(words: &[u32], at: usize, all: &[u32; 4]) -> Endings
+    requires { ⌜ at + 71 < length (now words) ⌝ }
+    ensures { λ r. ⌜ r ≡ endingsOf (now (words .entry)) at (now (all .entry)) ⌝ }
+{
+    Endings {
+        e00: all[0] ^ words[at + 71],
+        e01: all[1] ^ words[at],
+        e10: all[2] ^ words[at + 1],
+        e11: all[3] ^ words[at + 2],
     }
 }
 
@@ -129,21 +243,15 @@ fn sums_beside(words: &[u32], at: usize, sums: &mut [u32; SUM_WORDS]) -> u32
     let mut top = [0u32; 4];
     let mut all = [0u32; 4];
     columns(&*words, at, &mut table, &mut top, &mut all);
-    let ending_00 = all[0] ^ words[at + 71];
-    let ending_01 = all[1] ^ words[at];
-    let ending_10 = all[2] ^ words[at + 1];
-    let ending_11 = all[3] ^ words[at + 2];
-    let d0 = ending_01 ^ ending_11;
-    let d1 = ending_10 ^ ending_11;
-    let d2 = table[0] ^ table[4] ^ table[8] ^ table[12];
-    let d3 = table[1] ^ table[5] ^ table[9] ^ table[13];
-    let d4 = table[2] ^ table[6] ^ table[10] ^ table[14];
-    let d5 = table[3] ^ table[7] ^ table[11] ^ table[15];
+    let ends = with_ends(&*words, at, &all);
+    let d0 = ends.e01 ^ ends.e11;
+    let d1 = ends.e10 ^ ends.e11;
+    let d2 = across(&table, 0);
+    let d3 = across(&table, 1);
+    let d4 = across(&table, 2);
+    let d5 = across(&table, 3);
     let d6 = top[0] ^ top[1] ^ top[2] ^ top[3];
-    keep(
-        [d0, d1, d2, d3, d4, d5, d6, d0 ^ ending_00 ^ ending_10],
-        sums,
-    )
+    keep([d0, d1, d2, d3, d4, d5, d6, d0 ^ ends.e00 ^ ends.e10], sums)
 }
 
 // The same as `look`, of a block of shape 2 whose rows are neighbours.

@@ -1,6 +1,6 @@
 -- `sums::columns` meets its contract. The loop's invariant: the columns passed are in their places. Assumes nothing.
-use Prim.Native.Nat.{ℕ, _+_, _*_, _-_, _≤_, _<_}
-use mathlib.Core.Path.{_≡_, refl, sym, ap, _∙_}
+use Prim.Native.Nat.{ℕ, suc, _+_, _*_, _-_, _≤_, _<_}
+use mathlib.Core.Path.{_≡_, refl, sym, ap, ap₂, _∙_}
 use mathlib.Core.List.{List}
 use native.Mathlib.Numerals.{add-one}
 use native.Mathlib.Omega.{arith}
@@ -10,7 +10,9 @@ use mir.Syntax.{w64}
 use mir.Val.{Fits}
 use borrow.Author.Needs.{needs}
 use Rattle.ground.specs.Stores.{stores}
-use Rattle.sums.specs.Inner.{Column, columnOf, inColumn, tabled}
+use Rattle.sums.specs.declared.Running.{Running}
+use Rattle.sums.specs.declared.Column.{Column}
+use Rattle.sums.specs.Inner.{threeOf, fourOf, columnFrom, columnOf, inColumn, laid, tabled}
 use Rattle.sums.proofs.columns.Statement.{statement}
 use Rattle.sums.proofs.columns.Tie as tie
 
@@ -22,95 +24,74 @@ Inv-loop words at table₀ top₀ all₀ c₀ table top all c =
 abbrev μ-loop : tie.MeasureT-loop
 μ-loop words at table₀ top₀ all₀ c₀ table top all c = 4 - c
 
--- the first word read of a column, from the last
-abbrev ninth : tie.After-shared-slice-known17 Inv-loop μ-loop → tie.After-shared-slice-known9 Inv-loop μ-loop
-ninth c = c .before .before .before .before .before .before .before .before
-
-abbrev first : tie.After-shared-slice-known9 Inv-loop μ-loop → tie.After-shared-slice-known Inv-loop μ-loop
-first c = c .before .before .before .before .before .before .before .before
-
--- the turn, from the ninth word
-abbrev turn : tie.After-shared-slice-known9 Inv-loop μ-loop → tie.In-loop Inv-loop μ-loop
-turn c = c .before .before .before .before .before .before .before .before .before
-
 -- each word of the column is there, and its place is a number that fits, counted in words and in bytes
-module _ (c : tie.In-loop Inv-loop μ-loop) (k : ℕ) (h : k ≤ 67) where
+module _ (c : tie.In-loop Inv-loop μ-loop) (k : ℕ) where
   abbrev at : ℕ
-  at = c .before .before .args .at
+  at = c .before .before .before .args .at
 
   abbrev column : ℕ
   column = c .before .loop .c
 
-  inside : at + k + column < length (c .before .before .args .words .now)
-  inside = omega arith
+  abbrev there : ℕ → Type 0
+  there k = at + k + column < length (c .before .before .before .args .words .now)
 
-  near : Fits w64 (at + k)
-  near = omega arith
+  inside : k ≤ 67 → there k
+  inside h = omega arith
 
-  place : Fits w64 (at + k + column)
-  place = omega arith
+  near : k ≤ 67 → Fits w64 (at + k)
+  near h = omega arith
 
-  byte : Fits w64 ((at + k + column) * 4)
-  byte = omega arith
+  place : k ≤ 67 → Fits w64 (at + k + column)
+  place h = omega arith
 
--- and so it is with the entries of column x in the tables
-below : (c : tie.After-shared-slice-known17 Inv-loop μ-loop) → first (ninth c) .before .before .loop .c < 4
-below c = first (ninth c) .before .loop-test .taken
+  byte : k ≤ 67 → Fits w64 ((at + k + column) * 4)
+  byte h = omega arith
 
-module _ (x : ℕ) (h : x < 4) where
-  four : Fits w64 (4 * x)
-  four = omega arith
-
-  four-byte : Fits w64 (4 * x * 4)
-  four-byte = omega arith
-
-  tabled-at : 4 * x < 16
-  tabled-at = omega arith
-
-  column-byte : Fits w64 (x * 4)
-  column-byte = omega arith
-
-  module _ (j : ℕ) (l : j ≤ 3) where
-    entry : Fits w64 (4 * x + j)
-    entry = omega arith
-
-    entry-byte : Fits w64 ((4 * x + j) * 4)
-    entry-byte = omega arith
-
-    entry-in : 4 * x + j < 16
-    entry-in = omega arith
+  three-there : k ≤ 59 → there k × there (k + 4) × there (k + 8)
+  three-there h = (omega arith, omega arith, omega arith)
 
 loop-holds : tie.Need-loop-holds Inv-loop μ-loop
 unfolding tabled stores
 loop-holds c = (omega arith, refl, refl, refl)
 
--- one column more
-table-more : (f : ℕ → Column) (c : ℕ) (table₀ : List ℕ) {table : List ℕ} → table ≡ tabled table₀ f c
-    → set (set (set (set table (4 * c) (f c .d2)) (4 * c + 1) (f c .d3)) (4 * c + 2) (f c .d4)) (4 * c + 3) (f c .d5) ≡ tabled table₀ f (c + 1)
-unfolding tabled
-table-more f c table₀ e =
-    ap (λ (t : List ℕ). set (set (set (set t (4 * c) (f c .d2)) (4 * c + 1) (f c .d3)) (4 * c + 2) (f c .d4)) (4 * c + 3) (f c .d5)) e
-    ∙ sym (ap (tabled table₀ f) (add-one c))
+-- what is found of a column from its groups
+found-is : (x : ℕ → ℕ) {a b c d b′ c′ d′ : Running} {found : Column} → found ≡ columnFrom a b c d (x 16) (x 17) → a ≡ threeOf (x 1) (x 2) (x 3)
+    → b ≡ fourOf (x 4) b′ → b′ ≡ threeOf (x 5) (x 6) (x 7) → c ≡ fourOf (x 8) c′ → c′ ≡ threeOf (x 9) (x 10) (x 11) → d ≡ fourOf (x 12) d′
+    → d′ ≡ threeOf (x 13) (x 14) (x 15)
+    → found ≡ columnOf x
+found-is x e ea eb eb′ ec ec′ ed ed′ = e ∙ rw (ea, eb, eb′, ec, ec′, ed, ed′)
 
-store-more : (v : ℕ → ℕ) (c : ℕ) (old : List ℕ) {list : List ℕ} → list ≡ stores old (λ c. c) v c → set list c (v c) ≡ stores old (λ c. c) v (c + 1)
-unfolding stores
-store-more v c old e = ap (λ (l : List ℕ). set l c (v c)) e ∙ sym (ap (stores old (λ c. c) v) (add-one c))
+-- the turn, from its end
+abbrev turn : tie.After-lay-arg3 Inv-loop μ-loop → tie.In-loop Inv-loop μ-loop
+turn c = c .before .before .before .before .before .before .before .before .before .before .before .before .before
 
 loop-again : tie.Need-loop-again Inv-loop μ-loop
+unfolding tabled stores
 loop-again c =
-    let loop = first (ninth c) .before .before .loop in
-    let args = first (ninth c) .before .before .before .args in
-    let x : ℕ → Column = λ c. columnOf (inColumn (args .words .now) (args .at) c) in (
-      omega arith,
-      table-more x (loop .c) (args .table .now) (loop .inv .1),
-      store-more (λ c. x c .d6) (loop .c) (args .top .now) (loop .inv .2),
-      store-more (λ c. x c .all) (loop .c) (args .all .now) (loop .inv .3),
+    let folded = c .before .before .before .before in
+    let read = folded .before .before .before in
+    let to-11 = read .before .before in
+    let to-7 = to-11 .before .before in
+    let in-loop = turn (c .before) in
+    let loop = in-loop .before .loop in
+    let args = in-loop .before .before .before .args in
+    let x : ℕ → Column = λ c. columnOf (inColumn (args .words .now) (args .at) c) in
+    let is = found-is (inColumn (args .words .now) (args .at) (loop .c)) (folded .folded .ensures) (to-7 .before .before .three .ensures)
+    (to-7 .four .ensures) (to-7 .before .three2 .ensures) (to-11 .four2 .ensures) (to-11 .before .three3 .ensures) (read .four3 .ensures)
+    (read .before .three4 .ensures) in
+    let more : (f : ℕ → List ℕ) → f (loop .c + 1) ≡ f (suc (loop .c)) = λ f. ap f (add-one (loop .c)) in (
+      omega (arith, in-loop .loop-test .taken),
+      c .lay .ensures .0 ∙ ap₂ (λ (t : List ℕ) (f : Column). laid t (loop .c) f) (loop .inv .1) is ∙ sym (more (tabled (args .table .now) x)),
+      c .lay .ensures .1 .0 ∙ ap₂ (λ (t : List ℕ) (f : Column). set t (loop .c) (f .d6)) (loop .inv .2) is
+          ∙ sym (more (stores (args .top .now) (λ c. c) (λ c. x c .d6))),
+      c .lay .ensures .1 .1 ∙ ap₂ (λ (t : List ℕ) (f : Column). set t (loop .c) (f .all)) (loop .inv .3) is
+          ∙ sym (more (stores (args .all .now) (λ c. c) (λ c. x c .all))),
     )
 
 returns : tie.Need-returns Inv-loop μ-loop
 returns c =
     let loop = c .before .loop in
-    let args = c .before .before .args in
+    let args = c .before .before .before .args in
     let x : ℕ → Column = λ c. columnOf (inColumn (args .words .now) (args .at) c) in
     let e : loop .c ≡ 4 = omega (arith, loop .inv .0) in (
       loop .inv .1 ∙ ap (tabled (args .table .now) x) e,
@@ -128,93 +109,38 @@ columns-spec =
     μ-loop
     loop-holds
     (λ c. near c 3 (lit≤ tt))
-    (λ c. place c 3 (lit≤ tt))
-    (λ c. byte c 3 (lit≤ tt))
-    (λ c. inside (c .before) 3 (lit≤ tt))
-    (λ c. near (c .before) 11 (lit≤ tt))
-    (λ c. place (c .before) 11 (lit≤ tt))
-    (λ c. byte (c .before) 11 (lit≤ tt))
-    (λ c. inside (c .before .before) 11 (lit≤ tt))
-    (λ c. near (c .before .before) 19 (lit≤ tt))
-    (λ c. place (c .before .before) 19 (lit≤ tt))
-    (λ c. byte (c .before .before) 19 (lit≤ tt))
-    (λ c. inside (c .before .before .before) 19 (lit≤ tt))
-    (λ c. near (c .before .before .before) 27 (lit≤ tt))
-    (λ c. place (c .before .before .before) 27 (lit≤ tt))
-    (λ c. byte (c .before .before .before) 27 (lit≤ tt))
-    (λ c. inside (c .before .before .before .before) 27 (lit≤ tt))
-    (λ c. near (c .before .before .before .before) 35 (lit≤ tt))
-    (λ c. place (c .before .before .before .before) 35 (lit≤ tt))
-    (λ c. byte (c .before .before .before .before) 35 (lit≤ tt))
-    (λ c. inside (c .before .before .before .before .before) 35 (lit≤ tt))
-    (λ c. near (c .before .before .before .before .before) 43 (lit≤ tt))
-    (λ c. place (c .before .before .before .before .before) 43 (lit≤ tt))
-    (λ c. byte (c .before .before .before .before .before) 43 (lit≤ tt))
-    (λ c. inside (c .before .before .before .before .before .before) 43 (lit≤ tt))
-    (λ c. near (c .before .before .before .before .before .before) 51 (lit≤ tt))
-    (λ c. place (c .before .before .before .before .before .before) 51 (lit≤ tt))
-    (λ c. byte (c .before .before .before .before .before .before) 51 (lit≤ tt))
-    (λ c. inside (c .before .before .before .before .before .before .before) 51 (lit≤ tt))
-    (λ c. near (c .before .before .before .before .before .before .before) 59 (lit≤ tt))
-    (λ c. place (c .before .before .before .before .before .before .before) 59 (lit≤ tt))
-    (λ c. byte (c .before .before .before .before .before .before .before) 59 (lit≤ tt))
-    (λ c. inside (c .before .before .before .before .before .before .before .before) 59 (lit≤ tt))
+    (λ c. near c 7 (lit≤ tt))
+    (λ c. near c 11 (lit≤ tt))
+    (λ c κs. three-there c 3 (lit≤ tt))
+    (λ c. near (c .before) 15 (lit≤ tt))
+    (λ c. near (c .before) 19 (lit≤ tt))
+    (λ c. near (c .before) 23 (lit≤ tt))
+    (λ c. near (c .before) 27 (lit≤ tt))
+    (λ c κs. three-there (c .before) 19 (lit≤ tt))
+    (λ c κs. inside (c .before .before) 15 (lit≤ tt))
+    (λ c. near (c .before .before .before) 31 (lit≤ tt))
+    (λ c. near (c .before .before .before) 35 (lit≤ tt))
+    (λ c. near (c .before .before .before) 39 (lit≤ tt))
+    (λ c. near (c .before .before .before) 43 (lit≤ tt))
+    (λ c κs. three-there (c .before .before .before) 35 (lit≤ tt))
+    (λ c κs. inside (c .before .before .before .before) 31 (lit≤ tt))
+    (λ c. near (c .before .before .before .before .before) 47 (lit≤ tt))
+    (λ c. near (c .before .before .before .before .before) 51 (lit≤ tt))
+    (λ c. near (c .before .before .before .before .before) 55 (lit≤ tt))
+    (λ c. near (c .before .before .before .before .before) 59 (lit≤ tt))
+    (λ c κs. three-there (c .before .before .before .before .before) 51 (lit≤ tt))
+    (λ c κs. inside (c .before .before .before .before .before .before) 47 (lit≤ tt))
+    (λ c. near (c .before .before .before .before .before .before .before) 63 (lit≤ tt))
+    (λ c. place (c .before .before .before .before .before .before .before) 63 (lit≤ tt))
+    (λ c. byte (c .before .before .before .before .before .before .before) 63 (lit≤ tt))
+    (λ c. inside (c .before .before .before .before .before .before .before .before) 63 (lit≤ tt))
     (λ c. near (c .before .before .before .before .before .before .before .before) 67 (lit≤ tt))
     (λ c. place (c .before .before .before .before .before .before .before .before) 67 (lit≤ tt))
     (λ c. byte (c .before .before .before .before .before .before .before .before) 67 (lit≤ tt))
-    (λ c. inside (turn c) 67 (lit≤ tt))
-    (λ c. near (turn c) 7 (lit≤ tt))
-    (λ c. place (turn c) 7 (lit≤ tt))
-    (λ c. byte (turn c) 7 (lit≤ tt))
-    (λ c. inside (turn (c .before)) 7 (lit≤ tt))
-    (λ c. near (turn (c .before)) 15 (lit≤ tt))
-    (λ c. place (turn (c .before)) 15 (lit≤ tt))
-    (λ c. byte (turn (c .before)) 15 (lit≤ tt))
-    (λ c. inside (turn (c .before .before)) 15 (lit≤ tt))
-    (λ c. near (turn (c .before .before)) 23 (lit≤ tt))
-    (λ c. place (turn (c .before .before)) 23 (lit≤ tt))
-    (λ c. byte (turn (c .before .before)) 23 (lit≤ tt))
-    (λ c. inside (turn (c .before .before .before)) 23 (lit≤ tt))
-    (λ c. near (turn (c .before .before .before)) 31 (lit≤ tt))
-    (λ c. place (turn (c .before .before .before)) 31 (lit≤ tt))
-    (λ c. byte (turn (c .before .before .before)) 31 (lit≤ tt))
-    (λ c. inside (turn (c .before .before .before .before)) 31 (lit≤ tt))
-    (λ c. near (turn (c .before .before .before .before)) 39 (lit≤ tt))
-    (λ c. place (turn (c .before .before .before .before)) 39 (lit≤ tt))
-    (λ c. byte (turn (c .before .before .before .before)) 39 (lit≤ tt))
-    (λ c. inside (turn (c .before .before .before .before .before)) 39 (lit≤ tt))
-    (λ c. near (turn (c .before .before .before .before .before)) 47 (lit≤ tt))
-    (λ c. place (turn (c .before .before .before .before .before)) 47 (lit≤ tt))
-    (λ c. byte (turn (c .before .before .before .before .before)) 47 (lit≤ tt))
-    (λ c. inside (turn (c .before .before .before .before .before .before)) 47 (lit≤ tt))
-    (λ c. near (turn (c .before .before .before .before .before .before)) 55 (lit≤ tt))
-    (λ c. place (turn (c .before .before .before .before .before .before)) 55 (lit≤ tt))
-    (λ c. byte (turn (c .before .before .before .before .before .before)) 55 (lit≤ tt))
-    (λ c. inside (turn (c .before .before .before .before .before .before .before)) 55 (lit≤ tt))
-    (λ c. near (turn (c .before .before .before .before .before .before .before)) 63 (lit≤ tt))
-    (λ c. place (turn (c .before .before .before .before .before .before .before)) 63 (lit≤ tt))
-    (λ c. byte (turn (c .before .before .before .before .before .before .before)) 63 (lit≤ tt))
-    (λ c. inside (turn (c .before .before .before .before .before .before .before .before)) 63 (lit≤ tt))
-    (λ c. four _ (below c))
-    (λ c. four-byte _ (below c))
-    (λ c. tabled-at _ (below c))
-    (λ c. four _ (below c))
-    (λ c. entry _ (below c) 1 (lit≤ tt))
-    (λ c. entry-byte _ (below c) 1 (lit≤ tt))
-    (λ c. entry-in _ (below c) 1 (lit≤ tt))
-    (λ c. four _ (below c))
-    (λ c. entry _ (below c) 2 (lit≤ tt))
-    (λ c. entry-byte _ (below c) 2 (lit≤ tt))
-    (λ c. entry-in _ (below c) 2 (lit≤ tt))
-    (λ c. four _ (below c))
-    (λ c. entry _ (below c) 3 (lit≤ tt))
-    (λ c. entry-byte _ (below c) 3 (lit≤ tt))
-    (λ c. entry-in _ (below c) 3 (lit≤ tt))
-    (λ c. column-byte _ (below c))
-    (λ c. below c)
-    (λ c. column-byte _ (below c))
-    (λ c. below c)
-    (λ c. search needs)
-    (λ c. search needs)
+    (λ c. inside (c .before .before .before .before .before .before .before .before .before) 67 (lit≤ tt))
+    (λ c κs. search needs)
+    (λ c κs. turn c .loop-test .taken)
+    (λ c. omega (arith, turn (c .before) .loop-test .taken))
+    (λ c. omega (arith, turn (c .before) .loop-test .taken))
     loop-again
     returns)

@@ -1,6 +1,7 @@
 -- `block::coding::copy_rows` meets its contract. The loop's invariant: the words passed are copied; past the buffer's end nothing is stored. Assumes nothing.
-use Prim.Native.Nat.{ℕ, _+_, _*_, _≤_, _<_, _-_}
+use Prim.Native.Nat.{ℕ, zero, suc, _+_, _*_, _≤_, _<_, _-_}
 use mathlib.Core.Path.{_≡_, refl, ap, _∙_}
+use native.Mathlib.Nat.{suc-mul, mul-le-mul-right}
 use native.Mathlib.Numerals.{add-one}
 use native.Mathlib.Omega.{arith}
 use lib.ListN.{length, getD, length-set}
@@ -20,16 +21,38 @@ Inv-loop rows words at s buffer₀ n k₀ buffer k =
 abbrev μ-loop : tie.MeasureT-loop
 μ-loop rows words at s buffer₀ n k₀ buffer k = n - k
 
--- the start, and the row that is copied
+-- the start, from where the smaller length is known
 abbrev start : tie.After-least Inv-loop μ-loop → tie.Start Inv-loop μ-loop
 start c = c .before .before .before .before
 
-module _ (c : tie.In-loop Inv-loop μ-loop) where
-  abbrev copied : ℕ
-  copied = getD (start (c .before .before) .args .rows .now) (c .before .loop .k) 0
+-- p steps are one step more than those before the last
+step-more : (p s : ℕ) → 1 ≤ p → p * s ≡ (p - 1) * s + s
+step-more zero s h = absurd (omega arith)
+step-more (suc j) s h = suc-mul j s ∙ ap (λ (k : ℕ). k * s + s) (let e : j ≡ suc j - 1 = omega arith in e)
 
-  there : let args = start (c .before .before) .args in (1 ≤ copied) × (args .at + (copied - 1) * args .s < length (args .words .now))
-  there = start (c .before .before) .pre (c .before .loop .k) (omega (arith, c .loop-test .taken, c .before .loop .inv .1))
+-- the row that is copied
+module _ (c : tie.In-loop Inv-loop μ-loop) where
+  abbrev begun : tie.Start Inv-loop μ-loop
+  begun = start (c .before .before)
+
+  abbrev copied : ℕ
+  copied = getD (begun .args .rows .now) (c .before .loop .k) 0
+
+  there : (1 ≤ copied) × (begun .args .at + (copied - 1) * begun .args .s < length (begun .args .words .now))
+  there = begun .pre .2 (c .before .loop .k) (omega (arith, c .loop-test .taken, c .before .loop .inv .1))
+
+  -- its number is a byte, so that its place fits
+  small : copied * begun .args .s ≤ 255 * begun .args .s
+  small =
+      let known = c .before .before .before .before .before in
+      mul-le-mul-right (begun .args .s) (omega (arith, known .shared-slice-known .given (c .before .loop .k)))
+
+  step : copied * begun .args .s ≡ (copied - 1) * begun .args .s + begun .args .s
+  step = step-more copied (begun .args .s) (there .0)
+
+  -- where it is read is where it lies
+  place : begun .args .at + copied * begun .args .s - begun .args .s ≡ begun .args .at + (copied - 1) * begun .args .s
+  place = omega (arith, step)
 
 loop-holds : tie.Need-loop-holds Inv-loop μ-loop
 unfolding stores
@@ -42,7 +65,7 @@ loop-again : tie.Need-loop-again Inv-loop μ-loop
 unfolding stores
 loop-again c =
     let inv = c .before .before .before .loop .inv in
-    (omega arith, inv .1, inv .2, inv .3, rw (add-one, inv .4), simp length-set (inv .5))
+    (omega arith, inv .1, inv .2, inv .3, rw (add-one, inv .4, place (c .before .before)), simp length-set (inv .5))
 
 returns : tie.Need-returns Inv-loop μ-loop
 returns c =
@@ -66,11 +89,11 @@ copy-rows-spec =
     loop-holds
     (λ c. omega (arith, c .before .before .loop .inv .1))
     (λ c. omega (arith, c .shared-slice-known3 .given (c .before .before .loop .k)))
-    (λ c. there (c .before) .0)
-    (λ c. omega (arith, there (c .before)))
-    (λ c. omega (arith, there (c .before)))
-    (λ c. omega (arith, there (c .before)))
-    (λ c. omega (arith, there (c .before .before)))
+    (λ c. omega (arith, small (c .before)))
+    (λ c. omega (arith, small (c .before)))
+    (λ c. omega (arith, step (c .before)))
+    (λ c. omega (arith, there (c .before), step (c .before)))
+    (λ c. omega (arith, there (c .before .before), step (c .before .before)))
     (λ c. search needs)
     slice-write-buffer
     (λ c. search needs)

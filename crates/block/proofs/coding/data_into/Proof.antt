@@ -46,7 +46,7 @@ front-long Two = refl
 front : (c : tie.After-words) → take (c .words .result) dataTwo ≡ take (words (start (c .before .before) .args .shape)) dataTwo
 front c = ap (λ (n : ℕ). take n dataTwo) (c .words .ensures)
 
-share : tie.Need-array-share-prefix-rows
+share : tie.Need-array-share-prefix-table
 share c = omega (arith, c .words .ensures, few-words (start (c .before .before) .args .shape))
 
 aggregate : tie.Need-slice-aggregate-copy-rows
@@ -56,7 +56,7 @@ copy-rows-requires : tie.Need-copy-rows-requires
 copy-rows-requires c κs =
     let counted = c .before .before in
     let args = start (counted .before .before) .args in
-    table-there (data-front (args .shape)) (args .words .now) (args .at) (args .s) (room (counted .before)) _ (front counted)
+    (omega arith, omega arith, table-there (data-front (args .shape)) (args .words .now) (args .at) (args .s) (room (counted .before)) _ (front counted))
 
 returns-2 : tie.Need-returns-2
 returns-2 c =

@@ -1,70 +1,50 @@
 -- `store::copies::put_apart` meets its contract. The loop's invariant: the first k rows are stored, and i is the index of the next. Assumes nothing.
-use Prim.Native.Nat.{ℕ, suc, _+_, _*_, _%_, _≤_, _<_, _-_}
-use mathlib.Core.Path.{_≡_, refl, ap}
+use Prim.Native.Nat.{_+_, _*_, _%_, _≤_, _-_}
+use mathlib.Core.Path.{_≡_, refl, ap, _∙_}
 use native.Mathlib.Omega.{arith}
-use native.Mathlib.Nat.{zero-mul}
-use lib.ListN.{length, getD, length-set}
+use lib.ListN.{length}
 use Rattle.ground.specs.Stores.{stores}
+use Rattle.ground.proofs.Stores.{length-stores}
 use Rattle.store.specs.Inner.{strideWrite}
-use Rattle.store.proofs.Turns.{on-1, on-2, on-3, on-4, four-stores}
+use Rattle.store.proofs.Turns.{along, four-inside, four-stores}
 use Rattle.store.proofs.copies.put_apart.Statement.{statement}
 use Rattle.store.proofs.copies.put_apart.Tie as tie
 
 abbrev Inv-loop : tie.InvT-loop
-Inv-loop image₀ rows at s block i₀ k₀ image i k =
-    (k ≤ rows) × (k % 4 ≡ 0) × (image ≡ strideWrite image₀ at s block k) × (i ≡ at + k * s) × (length image ≡ length image₀)
+Inv-loop image₀ rows at s block i₀ k₀ image i k = (k ≤ rows) × (k % 4 ≡ 0) × (image ≡ strideWrite image₀ at s block k) × (i ≡ at + k * s)
 
 abbrev μ-loop : tie.MeasureT-loop
 μ-loop image₀ rows at s block i₀ k₀ image i k = rows - k
 
-four : (c : tie.In-loop Inv-loop μ-loop) → c .before .loop .k + 4 ≤ c .before .before .args .rows
-four c = omega (arith, c .loop-test .taken, c .before .loop .inv .1, c .before .before .pre .1)
-
-far : (c : tie.In-loop Inv-loop μ-loop) → c .before .loop .i + 3 * c .before .before .args .s < length (c .before .before .args .image .now)
-far c =
-    let k = c .before .loop .k in
-    let there = c .before .before .pre .2 .1 (suc (suc (suc k))) (omega (arith, four c)) in
-    omega (arith, c .before .loop .inv .3, on-3 k (c .before .before .args .s), there)
-
-held : (c : tie.In-loop Inv-loop μ-loop) → length (c .before .loop .image) ≡ length (c .before .before .args .image .now)
-held c = c .before .loop .inv .4
+held : (c : tie.At-loop Inv-loop μ-loop) → length (c .loop .image) ≡ length (c .before .before .args .image .now)
+unfolding strideWrite
+held c = ap length (c .loop .inv .2) ∙ simp length-stores
 
 loop-holds : tie.Need-loop-holds Inv-loop μ-loop
 unfolding strideWrite stores
-loop-holds c = (omega arith, refl, refl, omega (arith, zero-mul (c .args .s)), refl)
+loop-holds c = (omega arith, refl, refl, omega arith)
 
-slice-write-2 : tie.Need-slice-write-image-2 Inv-loop μ-loop
-slice-write-2 c = simp length-set (omega (arith, far (c .before .before), held (c .before .before)))
-
-slice-write-3 : tie.Need-slice-write-image-3 Inv-loop μ-loop
-slice-write-3 c = simp length-set (omega (arith, far (c .before .before .before), held (c .before .before .before)))
-
-slice-write-4 : tie.Need-slice-write-image-4 Inv-loop μ-loop
-slice-write-4 c = simp length-set (omega (arith, far (c .before .before .before .before), held (c .before .before .before .before)))
+put-four-requires : tie.Need-put-four-requires Inv-loop μ-loop
+put-four-requires c κs =
+    let loop = c .before .before .loop in
+    let start = c .before .before .before .before in
+    (omega arith, rw (held (c .before .before)) (four-inside (start .args .at) (start .args .s) (loop .k) (loop .inv .3) (start .pre .2) (omega arith)))
 
 loop-again : tie.Need-loop-again Inv-loop μ-loop
 unfolding strideWrite
 loop-again c =
-    let in-loop = c .before .before .before .before in
-    let loop = in-loop .before .loop in
-    let args = in-loop .before .before .args in
-    let block = args .block .now in
-    let k = loop .k in
-    let taken : (i j : ℕ) → i ≡ j → getD block i 0 ≡ getD block j 0 = λ i j e. ap (λ (i : ℕ). getD block i 0) e in (
-      omega (arith, four in-loop),
-      omega (arith, loop .inv .1),
-      four-stores (args .image .now) (λ k. args .at + k * args .s) (λ k. getD block k 0) k (loop .inv .2) (loop .inv .3)
-          (omega (arith, loop .inv .3, on-1 k (args .s))) (omega (arith, loop .inv .3, on-2 k (args .s))) (omega (arith, loop .inv .3, on-3 k (args .s))) refl
-          (taken (k + 1) (suc k) (omega arith)) (taken (k + 2) (suc (suc k)) (omega arith)) (taken (k + 3) (suc (suc (suc k))) (omega arith)),
-      omega (arith, loop .inv .3, on-4 k (args .s)),
-      simp length-set (loop .inv .4),
+    let loop = c .before .before .before .before .before .loop in
+    let args = c .before .before .before .before .before .before .before .args in
+    let next = along (args .at) (args .s) (loop .k) (loop .inv .3) in (
+      omega arith,
+      omega arith,
+      rw (c .before .before .put-four .ensures) (four-stores (args .block .now) (args .image .now) (λ j. j) (λ j. args .at + j * args .s)
+          (loop .k) (loop .k) 1 (loop .i) (args .s) (loop .inv .2) (λ j. omega arith) next),
+      next 4,
     )
 
-same-length : tie.Need-same-length Inv-loop μ-loop
-same-length c = c .before .loop .inv .4
-
 returns : tie.Need-returns Inv-loop μ-loop
-returns c = let e : c .before .before .args .rows ≡ c .before .loop .k = omega (arith, c .before .loop .inv .0) in rw e (c .before .loop .inv .2)
+returns c = let e : c .before .before .before .args .rows ≡ c .before .loop .k = omega arith in rw e (c .before .loop .inv .2)
 
 pub put-apart-spec : {M : Type 1} → statement M
 put-apart-spec =
@@ -73,34 +53,11 @@ put-apart-spec =
     Inv-loop
     μ-loop
     loop-holds
-    (λ c. omega (arith, far c, four c))
-    (λ c. omega (arith, far c, four c))
-    (λ c. omega (arith, far (c .before), four (c .before)))
-    (λ c. omega (arith, far (c .before), held (c .before)))
-    (λ c. omega (arith, far (c .before), four (c .before)))
-    (λ c. omega (arith, far (c .before), four (c .before)))
-    (λ c. omega (arith, far (c .before), four (c .before)))
-    (λ c. omega (arith, far (c .before .before), four (c .before .before)))
-    (λ c. omega (arith, far (c .before .before), four (c .before .before)))
-    slice-write-2
-    (λ c. omega (arith, far (c .before .before), four (c .before .before)))
-    (λ c. omega (arith, far (c .before .before), four (c .before .before)))
-    (λ c. omega (arith, far (c .before .before), four (c .before .before)))
-    (λ c. omega (arith, far (c .before .before .before), four (c .before .before .before)))
-    (λ c. omega (arith, far (c .before .before .before), four (c .before .before .before)))
-    (λ c. omega (arith, far (c .before .before .before), four (c .before .before .before)))
-    slice-write-3
-    (λ c. omega (arith, far (c .before .before .before), four (c .before .before .before)))
-    (λ c. omega (arith, far (c .before .before .before), four (c .before .before .before)))
-    (λ c. omega (arith, far (c .before .before .before), four (c .before .before .before)))
-    (λ c. omega (arith, far (c .before .before .before .before), four (c .before .before .before .before)))
-    (λ c. omega (arith, far (c .before .before .before .before), four (c .before .before .before .before)))
-    (λ c. omega (arith, far (c .before .before .before .before), four (c .before .before .before .before)))
-    slice-write-4
-    (λ c. omega (arith, far (c .before .before .before .before), four (c .before .before .before .before)))
-    (λ c. omega (arith, far (c .before .before .before .before), four (c .before .before .before .before)))
-    (λ c. omega (arith, far (c .before .before .before .before), four (c .before .before .before .before)))
-    (λ c. omega (arith, far (c .before .before .before .before), four (c .before .before .before .before)))
+    put-four-requires
+    (λ c. omega arith)
+    (λ c. let arg = c .before .before .before in omega (arith, put-four-requires arg (arg .before .before .before .before .κs), held (arg .before .before)))
+    (λ c. omega arith)
+    (λ c. omega arith)
     loop-again
-    same-length
+    (λ c. held (c .before))
     returns)

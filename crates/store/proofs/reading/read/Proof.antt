@@ -1,5 +1,5 @@
 -- `store::reading::read` meets its contract: refused, clean with the data where they lie, lost with the buffer as it was, or mended. Assumes nothing.
-use mathlib.Core.Path.{_≡_, sym, _∙_}
+use mathlib.Core.Path.{_≡_, refl, sym, _∙_}
 use borrow.Author.Needs.{needs}
 use native.Mathlib.Omega.{arith}
 use lib.ListN.{length}
@@ -7,7 +7,7 @@ use Rattle.shape.specs.Shape.{words}
 use Rattle.layout.proofs.Sites.{Located, located, locates-is}
 use Rattle.store.proofs.Calls.{read-refused, read-lost, read-data, read-clean}
 use Rattle.store.proofs.Located.{inside, first-small, data-refused, list-refused}
-use Rattle.store.proofs.Strides.{decided-there, clean-there, sums-there, data-there, data-gathered}
+use Rattle.store.proofs.Strides.{mended-size, clean-there, sums-there, data-there, data-gathered}
 use Rattle.store.proofs.reading.read.Statement.{statement}
 use Rattle.store.proofs.reading.read.Tie as tie
 
@@ -47,28 +47,24 @@ returns-2 c =
     read-clean _ p (clean-there _ _ _ _ (inside _ _ _ p) there (c .before .before .before .before .if2 .taken)) _ _ (fits (exact looked))
     (data-there _ _ _ _ (inside _ _ _ p) there (c .before .before .data-into .ensures))
 
-gather-requires : tie.Need-gather-requires
-gather-requires c κs = inside _ _ _ (site (exact (c .before .before) .before .before))
+-- from where the block in doubt is decided
+abbrev seen : tie.After-in-doubt → tie.After-look
+seen c = c .before .before .before .before
+
+in-doubt-requires : tie.Need-in-doubt-requires
+in-doubt-requires c κs =
+    let looked = c .before .before .before in
+    let p = site (exact looked .before .before) in
+    (inside _ _ _ p, sums-there _ _ _ _ (inside _ _ _ p) (looked .look .ensures) (c .before .before .if2 .left), refl)
 
 returns-3 : tie.Need-returns-3
 returns-3 c =
-    let said = c .before .before in
-    let gathered = said .before .before .before in
-    let looked = gathered .before .before .before in
-    let p = site (exact looked .before .before) in
-    let took = gathered .gather .ensures in
-    let sums = sums-there _ _ _ _ (inside _ _ _ p) (looked .look .ensures) (gathered .before .before .if2 .left) in
-    let d = decided-there _ _ _ _ sums took (said .decide .ensures) in
-    read-lost _ p _ took _ (d .0) _ (fits (exact looked)) _ (c .enum-told .given .1)
+    let decided = c .before .before in
+    let looked = exact (seen decided) in
+    read-lost _ (site (looked .before .before)) _ refl _ (decided .in-doubt .ensures .0) _ (fits looked) _ (c .enum-told .given .1)
 
-whole-copy : tie.Need-slice-aggregate-data-into
-whole-copy c =
-    let said = c .before .before in
-    let gathered = said .before .before .before in
-    let looked = gathered .before .before .before in
-    let p = site (exact looked .before .before) in
-    let sums = sums-there _ _ _ _ (inside _ _ _ p) (looked .look .ensures) (gathered .before .before .if2 .left) in
-    sym (decided-there _ _ _ _ sums (gathered .gather .ensures) (said .decide .ensures) .2)
+whole-copy : tie.Need-slice-aggregate-data-of
+whole-copy c = sym (mended-size _ _ _ _ (c .before .before .in-doubt .ensures .1))
 
 returns-4 : tie.Need-returns-4
 returns-4 c =
@@ -80,15 +76,11 @@ returns-4 c =
 returns-5 : tie.Need-returns-5
 returns-5 c =
     let not-lost = c .before .before .before .before .before in
-    let said = not-lost .before in
-    let gathered = said .before .before .before in
-    let looked = gathered .before .before .before in
-    let p = site (exact looked .before .before) in
-    let took = gathered .gather .ensures in
-    let sums = sums-there _ _ _ _ (inside _ _ _ p) (looked .look .ensures) (gathered .before .before .if2 .left) in
-    let d = decided-there _ _ _ _ sums took (said .decide .ensures) in
-    read-data _ p _ took _ (d .0) _ (fits (exact looked)) (not-lost .match2 .keys2) _ _ (d .1)
-    (data-gathered _ (d .2) (c .before .before .data-into2 .ensures))
+    let decided = not-lost .before in
+    let mended = decided .in-doubt .ensures .1 in
+    let looked = exact (seen decided) in
+    read-data _ (site (looked .before .before)) _ refl _ (decided .in-doubt .ensures .0) _ (fits looked) (not-lost .match2 .keys2) _ _ mended
+    (data-gathered _ (mended-size _ _ _ _ mended) (c .before .before .data-of .ensures))
 
 pub read-spec : {M : Type 1} → statement M
 read-spec =
@@ -105,9 +97,7 @@ read-spec =
     (λ c κs. search needs)
     (λ c. search needs)
     returns-2
-    (λ c. search needs)
-    gather-requires
-    (λ c κs. search needs)
+    in-doubt-requires
     (λ c. search needs)
     returns-3
     whole-copy

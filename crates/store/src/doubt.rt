@@ -1,0 +1,31 @@
+// A block in doubt: gathered, and decided whole.
+ghost use mathlib.Core.Path.{_≡_};
+ghost use lib.ListN.{length};
+ghost use Rattle.shape.specs.Shape.{rows};
+ghost use Rattle.block.specs.Block.{blank, mendedBlock};
+ghost use Rattle.block.specs.Verdict.{verdictOf};
+ghost use Rattle.sums.specs.Sums.{sumsOf};
+ghost use Rattle.store.specs.Inner.{Inside, strideRead};
+use super::copies::gather;
+use block::Verdict;
+use shape::MOST_ROWS;
+use shape::Shape;
+use sums::SUM_WORDS;
+
+// What the block is by its sums, and its rows, mended where none of its lanes is lost.
+pub(crate) fn in_doubt(
+    image: &[u32],
+    shape: Shape,
+    at: usize,
+    s: u32,
+    sums: &[u32; SUM_WORDS],
+    mended: &mut [u32; MOST_ROWS],
+) -> Verdict
+    requires { ⌜ Inside (length (now image)) (rows shape) at s × (now sums ≡ sumsOf shape (strideRead (now image) at s blank (rows shape)))
+        × (now mended ≡ blank) ⌝ }
+    ensures verdict { λ r. ⌜ r ≡ verdictOf shape (strideRead (now (image .entry)) at s blank (rows shape)) ⌝ }
+    ensures mended { λ r. ⌜ now (mended .exit) ≡ mendedBlock shape (strideRead (now (image .entry)) at s blank (rows shape)) ⌝ }
+{
+    gather(&*image, shape, at, s as usize, mended);
+    block::decide(shape, mended, sums)
+}
