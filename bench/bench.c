@@ -72,6 +72,12 @@ static void measure_reads(void)
     flip(7, 11);
     measure_read("read-one-flip", FOLDGREBE_MENDED);
     flip(7, 11);
+    for (uint32_t lane = 0; lane < 32; lane++) flip(lane % rows + 1, lane);
+    measure_read("read-32-flips", FOLDGREBE_MENDED);
+    for (uint32_t lane = 0; lane < 32; lane++) flip(lane % rows + 1, lane);
+    flip(3, 9), flip(5, 9);
+    measure_read("read-lost", FOLDGREBE_LOST);
+    flip(3, 9), flip(5, 9);
 }
 
 static void measure_turn(const char *call, uint32_t asks)

@@ -19,7 +19,7 @@ use Rattle.sums.specs.Sums.{lying}
 use Rattle.block.specs.Sums.{CopiesData}
 use Rattle.block.specs.DataTables.{DataTable}
 use Rattle.block.proofs.Data.{before-digits, data-count}
-use Rattle.sums.proofs.Groups.{placed-lies}
+use Rattle.sums.proofs.Lying.{placed-lies}
 
 -- the tables of the code, which it does not name to a proof: each proof that cites one shows that the code's own table is the same
 abbrev pub dataOne : List ℕ

@@ -22,7 +22,7 @@ use Rattle.block.specs.declared.Verdict.{Verdict}
 use Rattle.block.specs.declared.Verdict.the-variants.{Clean}
 use Rattle.sums.specs.Words.{lane}
 use Rattle.block.specs.Block.{lanesLost, mendedLanes, mendedBlock, bitsChanged}
-use Rattle.block.specs.Verdict.{saidOf, saidBy, toSay, verdictOf}
+use Rattle.block.specs.Verdict.{saidBy, toSay, verdictOf}
 use Rattle.sums.specs.Sums.{sumsOf, doubtful}
 use Rattle.block.specs.Sums.{decisionIn, lostIn, oddCount, changedIn, Decides}
 use Rattle.sums.proofs.WordBits.{number-same, bit-number}

@@ -22,7 +22,6 @@ use Rattle.shape.specs.declared.Shape.{Shape}
 use Rattle.shape.specs.Shape.{before}
 use Rattle.shape.proofs.Sizes.{before-small}
 use Rattle.block.specs.declared.Verdict.the-variants.{Clean, Mended, Lost}
-use Rattle.sums.specs.Words.{word}
 use Rattle.block.specs.Verdict.{saidOf, saidBy}
 use Rattle.sums.specs.Sums.{sumIn, oddIn}
 use Rattle.block.specs.Sums.{decisionIn, lostIn, oddCount, changedIn, Decides}

@@ -7,7 +7,6 @@ use native.Mathlib.Omega.{arith}
 use lib.ListN.{length}
 use Rattle.ground.specs.Choice.{ifZero}
 use Rattle.block.specs.declared.Verdict.{Verdict}
-use Rattle.block.specs.declared.Verdict.the-variants.{Clean}
 use Rattle.block.specs.Verdict.{Said, saidOf, saidBy, toSay, verdictOf}
 use Rattle.block.proofs.Verdicts.{verdict-says, said-told}
 use Rattle.layout.specs.declared.Layout.{Layout}
@@ -15,7 +14,7 @@ use Rattle.layout.specs.Layout.{shapeOf}
 use Rattle.layout.specs.Refusal.{blockRefusal}
 use Rattle.store.specs.declared.Answer.{Answer}
 use Rattle.store.specs.declared.Answer.the-variants.{Refused, Stored, Found}
-use Rattle.store.specs.Answer.{answerNumber, answered, verdictIn, Answers}
+use Rattle.store.specs.Answer.{answered, verdictIn, Answers}
 use Rattle.store.specs.Image.{gathered}
 use Rattle.store.specs.Refusal.{dataRefusal}
 use Rattle.store.specs.Write.{writeAnswer, writeAfter, Writes}

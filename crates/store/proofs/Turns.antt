@@ -1,4 +1,4 @@
--- Four rows a turn: where they lie, and four stores more. Assumes nothing.
+-- What a turn of a copy stores, a row or four, where the rows lie, and what is asked of a copy. Assumes nothing.
 use Prim.Native.Nat.{ℕ, _+_, _*_, _%_, _≤_}
 use mathlib.Core.List.{List}
 use mathlib.Core.Path.{_≡_, refl}

@@ -5,7 +5,7 @@ use lib.ListN.{getD, set}
 use Rattle.ground.specs.Stores.{stores}
 
 -- four words of the given, from i on and s apart, stored in the list from k on and t apart
-abbrev pub fourCopied : List ℕ → ℕ → ℕ → List ℕ → ℕ → ℕ → List ℕ
+abbrev pub fourCopied : (given : List ℕ) (i s : ℕ) (list : List ℕ) (k t : ℕ) → List ℕ
 fourCopied given i s list k t =
     set (set (set (set list k (getD given i 0)) (k + t) (getD given (i + s) 0)) (k + 2 * t) (getD given (i + 2 * s) 0)) (k + 3 * t) (getD given (i + 3 * s) 0)
 
@@ -21,6 +21,6 @@ strideWrite image at s given n = stores image (λ k. at + k * s) (λ k. getD giv
 abbrev pub Inside : ℕ → ℕ → ℕ → ℕ → Type 0
 Inside len rows at s = (s ≤ 16) × ((k : ℕ) → k < rows → at + k * s < len)
 
--- the same of four words, each said as a search of the needs finds it
-abbrev pub FourInside : ℕ → ℕ → ℕ → Type 0
+-- the same of four words
+abbrev pub FourInside : (len at s : ℕ) → Type 0
 FourInside len at s = (s ≤ 16) × (at + s < len) × (at + 2 * s < len) × (at + 3 * s < len)

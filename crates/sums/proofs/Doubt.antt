@@ -1,19 +1,21 @@
 -- The sums as eight words hold each lane's sum and parity, and the lanes in which a word is set are those that are not valid. Assumes nothing.
 use Prim.Native.Nat.{ℕ, zero, suc, _+_, _*_, _^_, _≤_, _<_}
-use mathlib.Core.Bool.{Bool, true, false, not, _||_}
-use mathlib.Core.Path.{_≡_, refl, sym, ap, ap₂, _∙_}
+use mathlib.Core.Bool.{Bool, true, false, not, _||_, cond}
+use mathlib.Core.Path.{_≡_, refl, sym, ap, _∙_}
 use mathlib.Core.List.{List}
 use native.Mathlib.Omega.{arith}
 use lib.Bits.{or-lt}
-use lib.Dec.{eqb, eqb·suc-zero}
+use lib.Dec.{eqb, ltb, eqb·suc-zero}
 use lib.ListN.{length, getD}
 use lib.Pow.{pow-pos}
-use borrow.Author.Tests.{ne-eqb}
+use borrow.Author.Tests.{ne-eqb, lt-ltb}
 use Rattle.lane.specs.Bit.{bit, pick}
 use Rattle.lane.specs.Lane.{sum, odd}
 use Rattle.lane.proofs.Bits.{bit-zero, bit-or}
 use Rattle.lane.proofs.Exactly.{sum-lt}
 use Rattle.ground.specs.Choice.{ifZero}
+use Rattle.ground.specs.Lists.{listOf}
+use Rattle.ground.proofs.Lists.{getD-listOf}
 use Rattle.shape.specs.declared.Shape.{Shape}
 use Rattle.shape.specs.Shape.{before, rows}
 use Rattle.shape.proofs.Sizes.{before-small}
@@ -36,9 +38,7 @@ module _ (i : ℕ) (digits : List ℕ) where
   pub bit-any : (k : ℕ) → bit i (anyOf k digits) ≡ not (eqb (low k) 0)
   unfolding anyOf number
   bit-any zero = bit-zero i
-  bit-any (suc k) =
-      bit-or i (anyOf k digits) (getD digits k 0) ∙ ap (λ (b : Bool). b || bit i (getD digits k 0)) (bit-any k)
-      ∙ or-zero (low k) k (bit i (getD digits k 0))
+  bit-any (suc k) = rw (bit-or i, bit-any k) (or-zero (low k) k (bit i (getD digits k 0)))
 
 -- ---- the sums
 
@@ -46,16 +46,12 @@ module _ (shape : Shape) (block : List ℕ) where
   abbrev sums : List ℕ
   sums = sumsOf shape block
 
+  word-in : (k : ℕ) → k < 8 → getD sums k 0 ≡ word (λ i. cond (ltb k 7) (bit k (sum (before shape) (lane i block))) (odd (rows shape) (lane i block)))
+  unfolding sumsOf listOf
+  word-in = getD-listOf 8 _
+
   pub digit-in : (k i : ℕ) → k < 7 → i < 32 → bit i (getD sums k 0) ≡ bit k (sum (before shape) (lane i block))
-  unfolding sumsOf
-  digit-in zero i h l = bit-number 32 i _ l
-  digit-in (suc zero) i h l = bit-number 32 i _ l
-  digit-in (suc (suc zero)) i h l = bit-number 32 i _ l
-  digit-in (suc (suc (suc zero))) i h l = bit-number 32 i _ l
-  digit-in (suc (suc (suc (suc zero)))) i h l = bit-number 32 i _ l
-  digit-in (suc (suc (suc (suc (suc zero))))) i h l = bit-number 32 i _ l
-  digit-in (suc (suc (suc (suc (suc (suc zero)))))) i h l = bit-number 32 i _ l
-  digit-in (suc (suc (suc (suc (suc (suc (suc k))))))) i h l = absurd (omega arith)
+  digit-in k i h l = rw (word-in k (omega arith), lt-ltb k 7 h) (bit-number 32 i _ l)
 
   pub odd-in : (i : ℕ) → i < 32 → oddIn sums i ≡ odd (rows shape) (lane i block)
   unfolding sumsOf
@@ -66,16 +62,7 @@ module _ (shape : Shape) (block : List ℕ) where
       sym (number-bits 7 (sum (before shape) (lane i block)) _ (sum-lt 7 (before shape) (lane i block) (before-small shape)) (λ k h. sym (digit-in k i h l)))
 
   pub word-lt : (k : ℕ) → k < 8 → getD sums k 0 < 2 ^ 32
-  unfolding sumsOf
-  word-lt zero h = number-lt 32 _
-  word-lt (suc zero) h = number-lt 32 _
-  word-lt (suc (suc zero)) h = number-lt 32 _
-  word-lt (suc (suc (suc zero))) h = number-lt 32 _
-  word-lt (suc (suc (suc (suc zero)))) h = number-lt 32 _
-  word-lt (suc (suc (suc (suc (suc zero))))) h = number-lt 32 _
-  word-lt (suc (suc (suc (suc (suc (suc zero)))))) h = number-lt 32 _
-  word-lt (suc (suc (suc (suc (suc (suc (suc zero))))))) h = number-lt 32 _
-  word-lt (suc (suc (suc (suc (suc (suc (suc (suc k)))))))) h = absurd (omega arith)
+  word-lt k h = rw (word-in k h) (number-lt 32 _)
 
   pub any-lt : (k : ℕ) → k ≤ 8 → anyOf k sums < 2 ^ 32
   unfolding anyOf
@@ -84,11 +71,7 @@ module _ (shape : Shape) (block : List ℕ) where
 
   pub some-doubt : anyOf 8 sums ≡ doubtful shape block
   unfolding doubtful anyOf
-  some-doubt =
-      number-bits 32 (anyOf 8 sums) _ (any-lt 8 (omega arith))
-      (λ i l.
-      bit-or i (anyOf 7 sums) (getD sums 7 0)
-      ∙ ap₂ _||_ (bit-any i sums 7 ∙ ap (λ (s : ℕ). not (eqb s 0)) (sum-in i l)) (odd-in i l))
+  some-doubt = number-bits 32 (anyOf 8 sums) _ (any-lt 8 (omega arith)) (λ i l. rw (bit-or i (anyOf 7 sums), bit-any i sums 7, sum-in i l, odd-in i l))
 
 -- eight words that are the sums, and kept, are what a look is to find
 pub looks : (shape : Shape) (words : List ℕ) (at s : ℕ) (lent after : List ℕ) (found : ℕ) → at + before shape * s < length words

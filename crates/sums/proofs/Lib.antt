@@ -1,6 +1,6 @@
 pub mod WordBits
 pub mod RowSums
-pub mod Groups
+pub mod Lying
 pub mod Apart
 pub mod Neighbours
 pub mod Doubt

@@ -1,16 +1,15 @@
--- The exclusive or over rows that pass a test: linear in the test, the same for tests that agree, and lane by lane the digits of the sums and the
--- parities. Assumes nothing.
+-- The exclusive or over rows that pass a test: linear in the test, and lane by lane the digits of the sums and the parities. Assumes nothing.
 use Prim.Native.Nat.{ℕ, zero, suc, _^_, _≤_, _<_}
-use mathlib.Core.Bool.{Bool, true, false, _&&_}
+use mathlib.Core.Bool.{Bool, true, false, not, _&&_, and-comm}
 use mathlib.Core.Path.{_≡_, refl, sym, ap, ap₂, _∙_}
 use mathlib.Core.List.{List, [], _∷_}
 use mathlib.Core.Logic.{⊎-elim}
-use native.Mathlib.Nat.{le-refl, eq-or-lt-of-le, le-of-suc-le-suc}
+use native.Mathlib.Nat.{eq-or-lt-of-le, le-of-suc-le-suc}
 use native.Mathlib.Omega.{arith}
 use lib.Bits.{bitXor, xor-zero-r, xor-lt}
 use lib.Dec.{eqb, leb}
 use lib.Pow.{pow-pos}
-use borrow.Author.Tests.{eq-eqb, ne-eqb, le-leb, lt-leb}
+use borrow.Author.Tests.{eq-eqb, ne-eqb, le-leb, lt-leb, leb-true, not-true}
 use Rattle.lane.specs.Bit.{bit, _⊕_, pick}
 use Rattle.lane.specs.Lane.{Lane, sum, count, odd}
 use Rattle.lane.proofs.Bits.{bit-zero, bit-xor, xor-swap}
@@ -30,40 +29,12 @@ use Rattle.sums.proofs.WordBits.{number-bits}
 pub xor-both : (t u : ℕ → Bool) (n : ℕ) (w : ℕ → ℕ) → bitXor (xorRows t n w) (xorRows u n w) ≡ xorRows (λ p. t p ⊕ u p) n w
 unfolding xorRows
 xor-both t u zero w = refl
-xor-both t u (suc n) w =
-    xor-swap (xorRows t n w) (pick (t (suc n)) (w (suc n))) (xorRows u n w) (pick (u (suc n)) (w (suc n)))
-    ∙ ap₂ bitXor (xor-both t u n w) (sym (pick-xor (t (suc n)) (u (suc n)) (w (suc n))))
-
--- a word that is made of the rows that pass a test
-pub record Made (n : ℕ) (w : ℕ → ℕ) (t : ℕ → Bool) (a : ℕ) : Type 0 where
-  pub is : a ≡ xorRows t n w
-
-pub together : {t u : ℕ → Bool} {n : ℕ} {w : ℕ → ℕ} {a b : ℕ} → Made n w t a → Made n w u b → Made n w (λ p. t p ⊕ u p) (bitXor a b)
-together {t} {u} {n} {w} x y = record { is = ap₂ bitXor (x .is) (y .is) ∙ xor-both t u n w }
-
-pub same-tests : (t u : ℕ → Bool) (n : ℕ) (w : ℕ → ℕ) → ((p : ℕ) → 1 ≤ p → p ≤ n → t p ≡ u p) → xorRows t n w ≡ xorRows u n w
-unfolding xorRows
-same-tests t u zero w h = refl
-same-tests t u (suc n) w h =
-    ap₂ (λ (x : ℕ) (b : Bool). bitXor x (pick b (w (suc n)))) (same-tests t u n w (λ p f l. h p f (omega arith))) (h (suc n) (omega arith) (le-refl (suc n)))
-
-pub same-words : (t : ℕ → Bool) (n : ℕ) (v w : ℕ → ℕ) → ((p : ℕ) → 1 ≤ p → p ≤ n → v p ≡ w p) → xorRows t n v ≡ xorRows t n w
-unfolding xorRows
-same-words t zero v w h = refl
-same-words t (suc n) v w h =
-    ap₂ (λ (x y : ℕ). bitXor x (pick (t (suc n)) y)) (same-words t n v w (λ p f l. h p f (omega arith))) (h (suc n) (omega arith) (le-refl (suc n)))
+xor-both t u (suc n) w = rw (pick-xor, ← xor-both t u n w) (xor-swap (xorRows t n w) _ _ _)
 
 -- do two bits agree, and do two tests on rows 1 to n: by computing
 abbrev pub alike : Bool → Bool → Bool
 alike true b = b
-alike false true = false
-alike false false = true
-
-alike-same : (a b : Bool) → alike a b ≡ true → a ≡ b
-alike-same true true e = refl
-alike-same true false e = sym e
-alike-same false true e = e
-alike-same false false e = refl
+alike false b = not b
 
 unfoldable pub agree? : (t u : ℕ → Bool) → ℕ → Bool
 agree? t u zero = true
@@ -74,47 +45,78 @@ unfolding agree? xorRows
 agree-same t u zero w e = refl
 agree-same t u (suc n) w e =
     let b = both (agree? t u n) (alike (t (suc n)) (u (suc n))) e in
-    ap₂ (λ (x : ℕ) (c : Bool). bitXor x (pick c (w (suc n)))) (agree-same t u n w (b .0)) (alike-same (t (suc n)) (u (suc n)) (b .1))
+    rw (alike-same (t (suc n)) (u (suc n)) (b .1), agree-same t u n w (b .0))
+  where
+    alike-same : (a b : Bool) → alike a b ≡ true → a ≡ b
+    alike-same true b e = sym e
+    alike-same false b e = sym (not-true b e)
 
-pub agreed : {t : ℕ → Bool} {n : ℕ} {w : ℕ → ℕ} {a : ℕ} (u : ℕ → Bool) → Made n w t a → agree? t u n ≡ true → a ≡ xorRows u n w
-agreed {t} {n} {w} u x e = x .is ∙ agree-same t u n w e
-
--- no row, one row, the rows up to one
-pub no-row : (n : ℕ) (w : ℕ → ℕ) → 0 ≡ xorRows (λ p. false) n w
+-- no row, and one row
+pub no-row : (t : ℕ → Bool) (n : ℕ) (w : ℕ → ℕ) → ((p : ℕ) → p ≤ n → t p ≡ false) → xorRows t n w ≡ 0
 unfolding xorRows
-no-row zero w = refl
-no-row (suc n) w = no-row n w ∙ sym (xor-zero-r (xorRows (λ p. false) n w))
+no-row t zero w h = refl
+no-row t (suc n) w h = rw (h (suc n) (omega arith), no-row t n w (λ p l. h p (omega arith)))
 
 pub one-row : (q n : ℕ) (w : ℕ → ℕ) → 1 ≤ q → q ≤ n → w q ≡ xorRows (λ p. eqb p q) n w
 unfolding xorRows
 one-row q zero w f l = absurd (omega arith)
 one-row q (suc n) w f l =
     ⊎-elim
-    (λ e.
-    rw (eq-eqb (suc n) q (sym e))
-    (ap w e ∙ ap (λ (x : ℕ). bitXor x (w (suc n))) (no-row n w ∙ same-tests (λ p. false) (λ p. eqb p q) n w (λ p g k. sym (ne-eqb p q (λ d. omega arith))))))
-    (λ b. rw (ne-eqb (suc n) q (λ d. omega arith)) (one-row q n w f (le-of-suc-le-suc b) ∙ sym (xor-zero-r (xorRows (λ p. eqb p q) n w))))
+    (λ e. rw (eq-eqb (suc n) q (sym e), no-row (λ p. eqb p q) n w (λ p k. ne-eqb p q (λ d. omega arith))) (ap w e))
+    (λ b. rw (ne-eqb (suc n) q (λ d. omega arith), xor-zero-r) (one-row q n w f (le-of-suc-le-suc b)))
     (eq-or-lt-of-le l)
 
-pub rows-upto : (t : ℕ → Bool) (m n : ℕ) (w : ℕ → ℕ) → m ≤ n → xorRows t m w ≡ xorRows (λ p. leb p m && t p) n w
+-- the rows up to one, among all of them
+pub rows-upto : (k n : ℕ) (w : ℕ → ℕ) → k ≤ n → xorRows (λ p. true) k w ≡ xorRows (λ p. leb p k) n w
 unfolding xorRows
-rows-upto t m zero w l = let e : m ≡ 0 = omega arith in ap (λ (k : ℕ). xorRows t k w) e
-rows-upto t m (suc n) w l =
-    ⊎-elim
-    (λ e.
-    ap (λ (k : ℕ). xorRows t k w) e
-    ∙ same-tests t (λ p. leb p m && t p) (suc n) w (λ p f k. sym (ap (λ (b : Bool). b && t p) (le-leb p m (omega arith)))))
-    (λ b.
-    rw (lt-leb (suc n) m (omega arith)) (rows-upto t m n w (le-of-suc-le-suc b) ∙ sym (xor-zero-r (xorRows (λ p. leb p m && t p) n w))))
-    (eq-or-lt-of-le l)
+rows-upto k zero w h = let e : k ≡ 0 = omega arith in rw e
+rows-upto k (suc n) w h =
+    ⊎-elim (λ (e : k ≡ suc n). rw e (every (suc n) (suc n) (omega arith)))
+    (λ b. rw (lt-leb (suc n) k (omega arith), xor-zero-r) (rows-upto k n w (le-of-suc-le-suc b)))
+    (eq-or-lt-of-le h)
+  where
+    every : (k m : ℕ) → m ≤ k → xorRows (λ p. true) m w ≡ xorRows (λ p. leb p k) m w
+    every k zero h = unfold xorRows in refl
+    every k (suc m) h = unfold xorRows in (rw (le-leb (suc m) k h, every k m (omega arith)))
+
+-- a word that is made of rows: those of the first n that pass the test, where each row taken is there
+pub record Made (n : ℕ) (w : ℕ → ℕ) (a : ℕ) : Type 0 where
+  pub test : ℕ → Bool
+  pub there : Bool
+  pub is : there ≡ true → a ≡ xorRows test n w
+
+module _ {n : ℕ} {w : ℕ → ℕ} where
+  abbrev pub none : Made n w 0
+  none = record { test = λ p. false; there = true; is = λ e. sym (no-row (λ p. false) n w (λ p l. refl)) }
+
+  abbrev pub one : (q : ℕ) → Made n w (w q)
+  one q =
+      record {
+        test = λ p. eqb p q;
+        there = leb 1 q && leb q n;
+        is = λ e. let b = both (leb 1 q) (leb q n) e in one-row q n w (leb-true 1 q (b .0)) (leb-true q n (b .1));
+      }
+
+  abbrev pub upto : (k : ℕ) → Made n w (xorRows (λ p. true) k w)
+  upto k = record { test = λ p. leb p k; there = leb k n; is = λ e. rows-upto k n w (leb-true k n e) }
+
+  abbrev pub same : {a b : ℕ} → a ≡ b → Made n w b → Made n w a
+  same e x = record { test = x .test; there = x .there; is = λ t. e ∙ x .is t }
+
+  infixl 30 _xor_
+  abbrev pub _xor_ : {a b : ℕ} → Made n w a → Made n w b → Made n w (bitXor a b)
+  x xor y =
+      record {
+        test = λ p. x .test p ⊕ y .test p;
+        there = x .there && y .there;
+        is = λ e. let b = both (x .there) (y .there) e in ap₂ bitXor (x .is (b .0)) (y .is (b .1)) ∙ xor-both (x .test) (y .test) n w;
+      }
+
+  -- by computing: every row taken is there, and the rows are those of another test
+  pub agreed : {a : ℕ} (u : ℕ → Bool) (x : Made n w a) → x .there && agree? (x .test) u n ≡ true → a ≡ xorRows u n w
+  agreed u x e = let b = both (x .there) (agree? (x .test) u n) e in x .is (b .0) ∙ agree-same (x .test) u n w (b .1)
 
 -- ---- lanes
-
-and-comm : (a b : Bool) → a && b ≡ b && a
-and-comm true true = refl
-and-comm true false = refl
-and-comm false true = refl
-and-comm false false = refl
 
 module _ (i : ℕ) (w : ℕ → ℕ) where
   abbrev f : Lane
@@ -124,17 +126,13 @@ module _ (i : ℕ) (w : ℕ → ℕ) where
   pub bit-digit : (k m : ℕ) → bit i (xorRows (bit k) m w) ≡ bit k (sum m f)
   unfolding xorRows sum
   bit-digit k zero = bit-zero i ∙ sym (bit-zero k)
-  bit-digit k (suc m) =
-      bit-xor i (xorRows (bit k) m w) (pick (bit k (suc m)) (w (suc m)))
-      ∙ ap₂ _⊕_ (bit-digit k m) (pick-bit i (bit k (suc m)) (w (suc m)) ∙ and-comm (bit k (suc m)) (f (suc m)) ∙ sym (pick-bit k (f (suc m)) (suc m)))
-      ∙ sym (bit-xor k (sum m f) (pick (f (suc m)) (suc m)))
+  bit-digit k (suc m) = rw (bit-xor i, bit-xor k, pick-bit i, pick-bit k, bit-digit k m, and-comm (bit k (suc m)))
 
   -- bit i of the word of all rows is lane i's parity
   pub bit-parity : (n : ℕ) → bit i (xorRows (λ p. true) n w) ≡ odd n f
   unfolding xorRows
   bit-parity zero = unfold count in (bit-zero i ∙ sym (bit-zero 0))
-  bit-parity (suc n) =
-      bit-xor i (xorRows (λ p. true) n w) (w (suc n)) ∙ ap (λ (b : Bool). b ⊕ f (suc n)) (bit-parity n) ∙ sym (odd-suc n f)
+  bit-parity (suc n) = rw (bit-xor i, bit-parity n, odd-suc n f)
 
 pub xor-rows-lt : (t : ℕ → Bool) (n : ℕ) (w : ℕ → ℕ) → ((p : ℕ) → w p < 2 ^ 32) → xorRows t n w < 2 ^ 32
 unfolding xorRows
@@ -150,10 +148,7 @@ xor-rows-lt t (suc n) w h = xor-lt 32 (xorRows t n w) (pick (t (suc n)) (w (suc 
 -- two lists of eight, word by word
 pub same-eight : {a b c d e f g h a′ b′ c′ d′ e′ f′ g′ h′ : ℕ} → a ≡ a′ → b ≡ b′ → c ≡ c′ → d ≡ d′ → e ≡ e′ → f ≡ f′ → g ≡ g′ → h ≡ h′
     → a ∷ b ∷ c ∷ d ∷ e ∷ f ∷ g ∷ h ∷ [] ≡ a′ ∷ b′ ∷ c′ ∷ d′ ∷ e′ ∷ f′ ∷ g′ ∷ h′ ∷ []
-same-eight ea eb ec ed ee ef eg eh = on ea (on eb (on ec (on ed (on ee (on ef (on eg (on eh refl)))))))
-  where
-    on : {x y : ℕ} {l m : List ℕ} → x ≡ y → l ≡ m → x ∷ l ≡ y ∷ m
-    on = ap₂ (λ (w : ℕ) (t : List ℕ). w ∷ t)
+same-eight ea eb ec ed ee ef eg eh = cc
 
 module _ (shape : Shape) (block : List ℕ) (w : ℕ → ℕ) (fits : (p : ℕ) → w p < 2 ^ 32) (lies : (p : ℕ) → 1 ≤ p → p ≤ rows shape → w p ≡ row p block) where
   lane-lies : (i j : ℕ) → j < rows shape → bit i (w (suc j)) ≡ lane i block (suc j)

@@ -29,23 +29,25 @@ Kept sums found lent after = (found ≡ anyOf 8 sums) × (after ≡ ifZero found
 
 -- ---- the rows in groups of four
 
--- digits 3 to 6 of the sums: shape 1 has no row with one of the last three
-abbrev pub ofShape : Shape → (d3 d4 d5 d6 : ℕ) → List ℕ
-ofShape One d3 d4 d5 d6 = d3 ∷ 0 ∷ 0 ∷ 0 ∷ []
-ofShape Two d3 d4 d5 d6 = d3 ∷ d4 ∷ d5 ∷ d6 ∷ []
+-- the eight words, from the rows by how they end, digit 2, and digits 3 to 6
+abbrev pub eightOf : Endings → ℕ → List ℕ → List ℕ
+eightOf ends d2 high =
+    let d0 : ℕ = bitXor (ends .e01) (ends .e11) in
+    d0 ∷ bitXor (ends .e10) (ends .e11) ∷ d2 ∷ getD high 0 0 ∷ getD high 1 0 ∷ getD high 2 0 ∷ getD high 3 0
+    ∷ bitXor (bitXor d0 (ends .e00)) (ends .e10) ∷ []
 
--- these, from the words of rows 1 to 4 q + 3 for each q
+-- digits 3 to 6 of the sums, from the words of rows 1 to 4 q + 3 for each q: shape 1 has no row with one of the last three
 abbrev pub highDigits : Shape → List ℕ → List ℕ
-highDigits shape upto =
+highDigits One upto = bitXor (getD upto 1 0) (getD upto 3 0) ∷ 0 ∷ 0 ∷ 0 ∷ []
+highDigits Two upto =
     let to : ℕ → ℕ = λ q. getD upto q 0 in
     let d5 : ℕ = bitXor (to 7) (to 15) in
     let d4 : ℕ = bitXor (bitXor (to 3) (to 11)) d5 in
-    let d3 : ℕ = bitXor (bitXor (bitXor (bitXor (to 1) (to 5)) (to 9)) (to 13)) d4 in
-    ofShape shape d3 d4 d5 (bitXor (to 15) (to 17))
+    bitXor (bitXor (bitXor (bitXor (to 1) (to 5)) (to 9)) (to 13)) d4 ∷ d4 ∷ d5 ∷ bitXor (to 15) (to 17) ∷ []
 
 -- ---- a column of 17 words, one a group
 
--- groups 4 m + 1 to 4 m + 3: those with the last digit of a group's number, those with the one before it, and all
+-- groups 4 m + 1 to 4 m + 3: those whose number ends in 1, those whose number ends in 10 or 11, and all
 abbrev pub threeOf : (x1 x2 x3 : ℕ) → Running
 threeOf x1 x2 x3 = record { low = bitXor x1 x3; high = bitXor x2 x3; all = bitXor x1 (bitXor x2 x3) }
 
@@ -54,19 +56,20 @@ abbrev pub fourOf : (x0 : ℕ) → Running → Running
 fourOf x0 rest = record { low = rest .low; high = rest .high; all = bitXor x0 (rest .all) }
 
 -- what a column gives, from groups 1 to 3, 4 to 7, 8 to 11, 12 to 15, 16 and 17
-abbrev pub columnFrom : (to3 to7 to11 to15 : Running) (x16 x17 : ℕ) → Column
-columnFrom to3 to7 to11 to15 x16 x17 =
-    let d4 : ℕ = bitXor (to7 .all) (to15 .all) in
+abbrev pub columnFrom : (from1 from4 from8 from12 : Running) (x16 x17 : ℕ) → Column
+columnFrom from1 from4 from8 from12 x16 x17 =
+    let d4 : ℕ = bitXor (from4 .all) (from12 .all) in
     let d6 : ℕ = bitXor x16 x17 in
     record {
-      d2 = bitXor (bitXor (bitXor (bitXor (to3 .low) (to7 .low)) (to11 .low)) (to15 .low)) x17;
-      d3 = bitXor (bitXor (bitXor (to3 .high) (to7 .high)) (to11 .high)) (to15 .high);
+      d2 = bitXor (bitXor (bitXor (bitXor (from1 .low) (from4 .low)) (from8 .low)) (from12 .low)) x17;
+      d3 = bitXor (bitXor (bitXor (from1 .high) (from4 .high)) (from8 .high)) (from12 .high);
       d4 = d4;
-      d5 = bitXor (to11 .all) (to15 .all);
+      d5 = bitXor (from8 .all) (from12 .all);
       d6 = d6;
-      all = bitXor (bitXor (bitXor (to3 .all) (to11 .all)) d4) d6;
+      all = bitXor (bitXor (bitXor (from1 .all) (from8 .all)) d4) d6;
     }
 
+-- what the words of a column give, group by group
 abbrev pub columnOf : (ℕ → ℕ) → Column
 columnOf x =
     let from : ℕ → Running = λ q. fourOf (x q) (threeOf (x (q + 1)) (x (q + 2)) (x (q + 3))) in

@@ -1,13 +1,12 @@
 // The sums and the parities of 32 lanes at once, worked out over the words where they lie.
-// A block is rows 1 to 3, groups of four rows, and the last row: the columns give the last two binary digits of a row's number, the groups
-// those before them.
+// A block is rows 1 to 3, groups of four rows, and the last: the columns give the last two binary digits of a row's number, the groups those before.
 ghost use mathlib.Core.Path.{_≡_};
 ghost use Prim.Native.Nat.{_+_, _<_};
 ghost use lib.ListN.{length, getD, set};
 ghost use Rattle.shape.specs.declared.Shape.the-variants.{Two};
 ghost use Rattle.ground.specs.Stores.{stores};
 ghost use Rattle.sums.specs.Sums.{lying, sumsOf, Looks};
-ghost use Rattle.sums.specs.Inner.{Kept, highDigits, threeOf, fourOf, columnFrom, columnOf, inColumn, laid, tabled, endingsOf, acrossOf};
+ghost use Rattle.sums.specs.Inner.{Kept, eightOf, highDigits, threeOf, fourOf, columnFrom, columnOf, inColumn, laid, tabled, endingsOf, acrossOf};
 use shape::Shape;
 use shape::rows;
 use shape::rows_before;
@@ -31,16 +30,47 @@ fn keep(found: [u32; SUM_WORDS], sums: &mut [u32; SUM_WORDS]) -> u32
     some
 }
 
+// The rows of a block by how their numbers end in binary.
+struct Endings {
+    e00: u32,
+    e01: u32,
+    e10: u32,
+    e11: u32,
+}
+
+// The eight words, from the rows by how they end, digit 2, and digits 3 to 6; kept where one is set.
+fn eight(ends: Endings, d2: u32, high: [u32; 4], sums: &mut [u32; SUM_WORDS]) -> u32
+    ensures { λ r. ⌜ Kept (eightOf ends d2 high) r (now (sums .entry)) (now (sums .exit)) ⌝ }
+{
+    let d0 = ends.e01 ^ ends.e11;
+    let d1 = ends.e10 ^ ends.e11;
+    keep(
+        [
+            d0,
+            d1,
+            d2,
+            high[0],
+            high[1],
+            high[2],
+            high[3],
+            d0 ^ ends.e00 ^ ends.e10,
+        ],
+        sums,
+    )
+}
+
 // Digits 3 to 6 of the sums, where `upto[q]` is the exclusive or of rows 1 to 4 q + 3.
 fn high_digits(shape: Shape, upto: &[u32; 18]) -> [u32; 4]
     ensures { λ r. ⌜ r ≡ highDigits shape (now (upto .entry)) ⌝ }
 {
-    let d5 = upto[7] ^ upto[15];
-    let d4 = upto[3] ^ upto[11] ^ d5;
-    let d3 = upto[1] ^ upto[5] ^ upto[9] ^ upto[13] ^ d4;
     match shape {
-        Shape::One => [d3, 0, 0, 0],
-        Shape::Two => [d3, d4, d5, upto[15] ^ upto[17]],
+        Shape::One => [upto[1] ^ upto[3], 0, 0, 0],
+        Shape::Two => {
+            let d5 = upto[7] ^ upto[15];
+            let d4 = upto[3] ^ upto[11] ^ d5;
+            let d3 = upto[1] ^ upto[5] ^ upto[9] ^ upto[13] ^ d4;
+            [d3, d4, d5, upto[15] ^ upto[17]]
+        }
     }
 }
 
@@ -72,29 +102,20 @@ fn sums_apart(shape: Shape, words: &[u32], at: u32, s: u32, sums: &mut [u32; SUM
         i += 4 * step;
         q += 1;
     }
-    let d0 = ending_01 ^ ending_11;
-    let d1 = ending_10 ^ ending_11;
-    let parity = d0 ^ ending_00 ^ ending_10;
-    let high = high_digits(shape, &upto);
-    keep(
-        [d0, d1, d2, high[0], high[1], high[2], high[3], parity],
-        sums,
-    )
+    let ends = Endings {
+        e00: ending_00,
+        e01: ending_01,
+        e10: ending_10,
+        e11: ending_11,
+    };
+    eight(ends, d2, high_digits(shape, &upto), sums)
 }
 
-// Groups running of one column: those with the last digit of a group's number, those with the one before it, and all.
+// Three or four groups of one column that follow each other: those whose number ends in 1, those whose number ends in 10 or 11, and all.
 struct Running {
     low: u32,
     high: u32,
     all: u32,
-}
-
-// The rows of a block by how their numbers end in binary.
-struct Endings {
-    e00: u32,
-    e01: u32,
-    e10: u32,
-    e11: u32,
 }
 
 // What a column gives: digits 2 to 6 of the sums, and the whole.
@@ -135,26 +156,26 @@ fn four(words: &[u32], i0: usize, c: usize, rest: Running) -> Running
     }
 }
 
-// Groups 1 to 17 of a column, folded: 1 to 3, 4 to 7, 8 to 11, 12 to 15, 16 and 17.
+// Groups 1 to 17 of a column: 1 to 3, 4 to 7, 8 to 11, 12 to 15, 16 and 17.
 fn folded(
-    to_3: Running,
-    to_7: Running,
-    to_11: Running,
-    to_15: Running,
+    from_1: Running,
+    from_4: Running,
+    from_8: Running,
+    from_12: Running,
     x16: u32,
     x17: u32,
 ) -> Column
-    ensures { λ r. ⌜ r ≡ columnFrom to_3 to_7 to_11 to_15 x16 x17 ⌝ }
+    ensures { λ r. ⌜ r ≡ columnFrom «from_1» «from_4» «from_8» «from_12» x16 x17 ⌝ }
 {
-    let d4 = to_7.all ^ to_15.all;
+    let d4 = from_4.all ^ from_12.all;
     let d6 = x16 ^ x17;
     Column {
-        d2: to_3.low ^ to_7.low ^ to_11.low ^ to_15.low ^ x17,
-        d3: to_3.high ^ to_7.high ^ to_11.high ^ to_15.high,
+        d2: from_1.low ^ from_4.low ^ from_8.low ^ from_12.low ^ x17,
+        d3: from_1.high ^ from_4.high ^ from_8.high ^ from_12.high,
         d4,
-        d5: to_11.all ^ to_15.all,
+        d5: from_8.all ^ from_12.all,
         d6,
-        all: to_3.all ^ to_11.all ^ d4 ^ d6,
+        all: from_1.all ^ from_8.all ^ d4 ^ d6,
     }
 }
 
@@ -174,7 +195,7 @@ fn lay(found: Column, c: usize, table: &mut [u32; 16], top: &mut [u32; 4], all: 
 }
 
 // Groups 1 to 17 of shape 2, by column: digits 2 to 5 of the sums, digit 6, and the whole column.
-// Each place is written out, so that the compiler takes the four columns at once; a shorter body is unrolled, and runs three times as long.
+// Each place is written out, so that the compiler takes the four columns at once; a shorter body is unrolled, and a visit takes two and a half times as long.
 fn columns(words: &[u32], at: usize, table: &mut [u32; 16], top: &mut [u32; 4], all: &mut [u32; 4])
     requires { ⌜ at + 70 < length (now words) ⌝ }
     ensures table { λ r. ⌜ now (table .exit) ≡ tabled (now (table .entry)) (λ c. columnOf (inColumn (now (words .entry)) at c)) 4 ⌝ }
@@ -182,33 +203,16 @@ fn columns(words: &[u32], at: usize, table: &mut [u32; 16], top: &mut [u32; 4], 
     ensures all { λ r. ⌜ now (all .exit) ≡ stores (now (all .entry)) (λ c. c) (λ c. columnOf (inColumn (now (words .entry)) at c) .all) 4 ⌝ }
 {
     for c in 0..4 {
-        let to_3 = three(&*words, at + 3, at + 7, at + 11, c);
-        let to_7 = four(
-            &*words,
-            at + 15,
-            c,
-            three(&*words, at + 19, at + 23, at + 27, c),
-        );
-        let to_11 = four(
-            &*words,
-            at + 31,
-            c,
-            three(&*words, at + 35, at + 39, at + 43, c),
-        );
-        let to_15 = four(
-            &*words,
-            at + 47,
-            c,
-            three(&*words, at + 51, at + 55, at + 59, c),
-        );
-        let found = folded(
-            to_3,
-            to_7,
-            to_11,
-            to_15,
-            words[at + 63 + c],
-            words[at + 67 + c],
-        );
+        let from_1 = three(&*words, at + 3, at + 7, at + 11, c);
+        let from_5 = three(&*words, at + 19, at + 23, at + 27, c);
+        let from_4 = four(&*words, at + 15, c, from_5);
+        let from_9 = three(&*words, at + 35, at + 39, at + 43, c);
+        let from_8 = four(&*words, at + 31, c, from_9);
+        let from_13 = three(&*words, at + 51, at + 55, at + 59, c);
+        let from_12 = four(&*words, at + 47, c, from_13);
+        let x16 = words[at + 63 + c];
+        let x17 = words[at + 67 + c];
+        let found = folded(from_1, from_4, from_8, from_12, x16, x17);
         lay(found, c, table, top, all);
     }
 }
@@ -244,14 +248,12 @@ fn sums_beside(words: &[u32], at: usize, sums: &mut [u32; SUM_WORDS]) -> u32
     let mut all = [0u32; 4];
     columns(&*words, at, &mut table, &mut top, &mut all);
     let ends = with_ends(&*words, at, &all);
-    let d0 = ends.e01 ^ ends.e11;
-    let d1 = ends.e10 ^ ends.e11;
     let d2 = across(&table, 0);
     let d3 = across(&table, 1);
     let d4 = across(&table, 2);
     let d5 = across(&table, 3);
     let d6 = top[0] ^ top[1] ^ top[2] ^ top[3];
-    keep([d0, d1, d2, d3, d4, d5, d6, d0 ^ ends.e00 ^ ends.e10], sums)
+    eight(ends, d2, [d3, d4, d5, d6], sums)
 }
 
 // The same as `look`, of a block of shape 2 whose rows are neighbours.

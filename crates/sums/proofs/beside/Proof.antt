@@ -7,26 +7,16 @@ use Rattle.sums.proofs.Doubt.{looks, misses}
 use Rattle.sums.proofs.beside.Statement.{statement}
 use Rattle.sums.proofs.beside.Tie as tie
 
--- the start, from where the rows of shape 2 are counted
-abbrev start : tie.After-rows → tie.Start
-start c = c .before .before
-
-add-if1 : tie.Need-add-if1
-add-if1 c = omega (arith, c .rows .ensures)
-
 returns : tie.Need-returns
 returns c =
     let b = c .before in
-    let args = start b .args in
+    let args = b .before .before .args in
     misses Two (args .words .now) (args .at) 1 (args .sums .now) (omega (arith, b .rows .ensures, c .if1 .taken))
-
-sums-beside-requires : tie.Need-sums-beside-requires
-sums-beside-requires c κs = let b = c .before .before in omega (arith, b .rows .ensures, c .before .if1 .left)
 
 returns-2 : tie.Need-returns-2
 returns-2 c =
     let b = c .before .before .before in
-    let args = start b .args in
+    let args = b .before .before .args in
     looks Two (args .words .now) (args .at) 1 (args .sums .now) _ _ (omega (arith, b .rows .ensures, c .before .before .if1 .left)) _ refl
     (c .sums-beside .ensures)
 
@@ -35,7 +25,7 @@ beside-spec =
     tie.close
     (tie.spec
     (λ c κs. search needs)
-    add-if1
+    (λ c. omega (arith, c .rows .ensures))
     returns
-    sums-beside-requires
+    (λ c κs. omega (arith, c .before .before .rows .ensures, c .before .if1 .left))
     returns-2)

@@ -70,14 +70,14 @@ unfolding tabled stores
 loop-again c =
     let folded = c .before .before .before .before in
     let read = folded .before .before .before in
-    let to-11 = read .before .before in
-    let to-7 = to-11 .before .before in
+    let from-8 = read .before .before in
+    let from-4 = from-8 .before .before in
     let in-loop = turn (c .before) in
     let loop = in-loop .before .loop in
     let args = in-loop .before .before .before .args in
     let x : ℕ → Column = λ c. columnOf (inColumn (args .words .now) (args .at) c) in
-    let is = found-is (inColumn (args .words .now) (args .at) (loop .c)) (folded .folded .ensures) (to-7 .before .before .three .ensures)
-    (to-7 .four .ensures) (to-7 .before .three2 .ensures) (to-11 .four2 .ensures) (to-11 .before .three3 .ensures) (read .four3 .ensures)
+    let is = found-is (inColumn (args .words .now) (args .at) (loop .c)) (folded .folded .ensures) (from-4 .before .before .three .ensures)
+    (from-4 .four .ensures) (from-4 .before .three2 .ensures) (from-8 .four2 .ensures) (from-8 .before .three3 .ensures) (read .four3 .ensures)
     (read .before .three4 .ensures) in
     let more : (f : ℕ → List ℕ) → f (loop .c + 1) ≡ f (suc (loop .c)) = λ f. ap f (add-one (loop .c)) in (
       omega (arith, in-loop .loop-test .taken),
@@ -112,23 +112,23 @@ columns-spec =
     (λ c. near c 7 (lit≤ tt))
     (λ c. near c 11 (lit≤ tt))
     (λ c κs. three-there c 3 (lit≤ tt))
-    (λ c. near (c .before) 15 (lit≤ tt))
     (λ c. near (c .before) 19 (lit≤ tt))
     (λ c. near (c .before) 23 (lit≤ tt))
     (λ c. near (c .before) 27 (lit≤ tt))
     (λ c κs. three-there (c .before) 19 (lit≤ tt))
+    (λ c. near (c .before .before) 15 (lit≤ tt))
     (λ c κs. inside (c .before .before) 15 (lit≤ tt))
-    (λ c. near (c .before .before .before) 31 (lit≤ tt))
     (λ c. near (c .before .before .before) 35 (lit≤ tt))
     (λ c. near (c .before .before .before) 39 (lit≤ tt))
     (λ c. near (c .before .before .before) 43 (lit≤ tt))
     (λ c κs. three-there (c .before .before .before) 35 (lit≤ tt))
+    (λ c. near (c .before .before .before .before) 31 (lit≤ tt))
     (λ c κs. inside (c .before .before .before .before) 31 (lit≤ tt))
-    (λ c. near (c .before .before .before .before .before) 47 (lit≤ tt))
     (λ c. near (c .before .before .before .before .before) 51 (lit≤ tt))
     (λ c. near (c .before .before .before .before .before) 55 (lit≤ tt))
     (λ c. near (c .before .before .before .before .before) 59 (lit≤ tt))
     (λ c κs. three-there (c .before .before .before .before .before) 51 (lit≤ tt))
+    (λ c. near (c .before .before .before .before .before .before) 47 (lit≤ tt))
     (λ c κs. inside (c .before .before .before .before .before .before) 47 (lit≤ tt))
     (λ c. near (c .before .before .before .before .before .before .before) 63 (lit≤ tt))
     (λ c. place (c .before .before .before .before .before .before .before) 63 (lit≤ tt))

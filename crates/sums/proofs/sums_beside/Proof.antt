@@ -10,18 +10,18 @@ use Rattle.sums.proofs.sums_beside.Tie as tie
 
 returns : tie.Need-returns
 returns c =
-    let fourth = c .before .before .before .before in
+    let fourth = c .before .before in
     let third = fourth .before .before in
     let second = third .before .before in
     let first = second .before .before in
-    let ended = first .before .before .before .before in
+    let ended = first .before .before in
     let columns = ended .before .before in
     let known = columns .before .before .before .before in
     let args = known .before .args in
     let are = beside-sums (args .words .now) (args .at) (λ k. omega (arith, known .shared-slice-known .given k)) (columns .columns .ensures .0)
     (columns .columns .ensures .1 .0) (columns .columns .ensures .1 .1) (ended .with-ends .ensures) (first .across .ensures) (second .across2 .ensures)
     (third .across3 .ensures) (fourth .across4 .ensures) in
-    (c .keep .ensures .0 ∙ ap (anyOf 8) are, c .keep .ensures .1 ∙ ap (ifZero (c .keep .result) (args .sums .now)) are)
+    (c .eight .ensures .0 ∙ ap (anyOf 8) are, c .eight .ensures .1 ∙ ap (ifZero (c .eight .result) (args .sums .now)) are)
 
 pub sums-beside-spec : {M : Type 1} → statement M
 sums-beside-spec =

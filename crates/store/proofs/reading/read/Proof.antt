@@ -44,7 +44,8 @@ returns-2 c =
     let looked = c .before .before .before .before .before in
     let p = site (exact looked .before .before) in
     let there = looked .look .ensures in
-    read-clean _ p (clean-there _ _ _ _ (inside _ _ _ p) there (c .before .before .before .before .if2 .taken)) _ _ (fits (exact looked))
+    let none : looked .look .result ≡ 0 = omega (arith, c .before .before .before .before .if2 .taken) in
+    read-clean _ p (clean-there _ _ _ _ (inside _ _ _ p) there none) _ _ (fits (exact looked))
     (data-there _ _ _ _ (inside _ _ _ p) there (c .before .before .data-into .ensures))
 
 -- from where the block in doubt is decided
