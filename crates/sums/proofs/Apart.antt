@@ -20,7 +20,7 @@ use Rattle.sums.specs.Inner.{xorRows, highDigits}
 use Rattle.sums.proofs.RowSums.{Made, none, one, upto, same, _xor_, agree?, agreed, sums-are}
 use Rattle.sums.proofs.Lying.{placed, placed-fits, placed-lies}
 
--- after q turns: a column, which has row r + 1 of each turn; rows 1 to 4 q + 3; and those together for each turn
+-- the rows r + 1 of the first q turns; rows 1 to 4 q + 3, as turn q has them before its fourth row; and these of the first q turns together
 unfoldable pub column : (ℕ → ℕ) → (r q : ℕ) → ℕ
 column w r zero = zero
 column w r (suc q) = bitXor (column w r q) (w (suc (4 * q + r)))
@@ -87,8 +87,8 @@ module _ {words : List ℕ} {at s : ℕ} where
       → let a01 : ℕ = bitXor e01 (getD words i 0) in
       let a10 : ℕ = bitXor e10 (getD words (i + s) 0) in
       let a11 : ℕ = bitXor e11 (getD words (i + 2 * s) 0) in
-      let third : ℕ = bitXor (bitXor (bitXor e00 a01) a10) a11 in
-      Turned words at s (q + 1) (i + 4 * s) (bitXor e00 (getD words (i + 3 * s) 0)) a01 a10 a11 (bitXor d2 third) (set upto q third)
+      let prefix : ℕ = bitXor (bitXor (bitXor e00 a01) a10) a11 in
+      Turned words at s (q + 1) (i + 4 * s) (bitXor e00 (getD words (i + 3 * s) 0)) a01 a10 a11 (bitXor d2 prefix) (set upto q prefix)
   unfolding column upTo stair stores
   turn-more {q} {i} t =
       let n00 = put 3 (i + 3 * s) (t .c00) (omega arith) in
@@ -125,7 +125,7 @@ module _ {words : List ℕ} {at s : ℕ} where
 -- ---- where the rows of a turn lie
 
 module _ (s q : ℕ) where
-  -- its third row is before the last
+  -- its fourth row is no farther than the last row
   pub within : (shape : Shape) → q < rows shape / 4 → 4 * q * s + 3 * s ≤ before shape * s
   within shape h = let e = mul-le-mul-right s (low shape h) in omega (arith, add-mul (4 * q) 3 s)
     where

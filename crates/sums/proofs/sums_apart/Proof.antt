@@ -28,7 +28,7 @@ entered c = c .before .before .before
 room : (c : tie.Else1 Inv-loop μ-loop) → start c .args .at + before (start c .args .shape) * start c .args .s < length (start c .args .words .now)
 room c = let r = ap (λ (b : ℕ). b * start c .args .s) (c .before .rows-before .ensures) in omega (arith, r, c .if1 .left)
 
--- a turn is left, and its third row is there
+-- a turn is left, and its fourth row is there
 left : (c : tie.In-loop Inv-loop μ-loop) → c .before .loop .q < rows (start (entered c) .args .shape) / 4
 left c = omega (arith, c .before .loop .inv .0, c .loop-test .taken)
 
