@@ -2,11 +2,16 @@
 use Prim.Native.Nat.{ℕ}
 use mathlib.Core.Path.{_≡_}
 use mathlib.Core.List.{List}
+use lib.ListN.{length}
 use Rattle.ground.proofs.Same.{same}
+use Rattle.layout.specs.declared.Layout.{Layout}
 use Rattle.file.specs.declared.Header.{Header}
+use Rattle.file.specs.declared.Written.{Written}
 use Rattle.file.specs.Bytes.{CountsFileWords, ReadsWords}
-use Rattle.file.specs.Header.{HeaderRead}
-use Rattle.file.proofs.Headers.{header-is}
+use Rattle.file.specs.Header.{HeaderRead, ReadsFile}
+use Rattle.file.specs.Written.{WritesFile}
+use Rattle.file.proofs.Headers.{header-is, names-read}
+use Rattle.file.proofs.FileWrites.{writes-answer}
 
 pub one-header : (bytes : List ℕ) {a b : Header} → HeaderRead bytes a → HeaderRead bytes b → a ≡ b
 one-header bytes {a} {b} p q = same (header-is bytes a p) (header-is bytes b q)
@@ -16,3 +21,17 @@ one-count len p q = same p q
 
 pub one-file-words : (bytes image : List ℕ) {a b : List ℕ} → ReadsWords bytes image a → ReadsWords bytes image b → a ≡ b
 one-file-words bytes image p q = same p q
+
+pub one-file-read : (bytes image : List ℕ) {a b : Header} {kept kept' after after' : List ℕ}
+    → ReadsFile bytes image a kept after
+    → ReadsFile bytes image b kept' after'
+    → (a ≡ b) × (kept ≡ kept') × (after ≡ after')
+one-file-read bytes image {a} {b} p q =
+    (same (names-read bytes (length image) a (p .answers)) (names-read bytes (length image) b (q .answers)), same (p .keeps) (q .keeps), same (p .leaves) (q .leaves))
+
+pub one-file-write : (image : List ℕ) (layout : Layout) (buffer : List ℕ) {a b : Written} {kept kept' after after' : List ℕ}
+    → WritesFile image layout buffer a kept after
+    → WritesFile image layout buffer b kept' after'
+    → (a ≡ b) × (kept ≡ kept') × (after ≡ after')
+one-file-write image layout buffer p q =
+    (same (writes-answer image layout buffer p) (writes-answer image layout buffer q), same (p .keeps) (q .keeps), same (p .leaves) (q .leaves))

@@ -13,7 +13,7 @@ use Rattle.layout.specs.declared.Layout.{Layout}
 use Rattle.layout.specs.Layout.{layoutOf}
 use Rattle.layout.specs.Refusal.{imageRefusal}
 use Rattle.file.specs.BigEndian.{pairOf, pairBytes, wordOf, wordBytes, wordAt}
-use Rattle.file.specs.Bytes.{bytesOf, fileOf, versionIn, fieldIn, layoutIn, wordCount, wordIn, wordsIn}
+use Rattle.file.specs.Bytes.{bytesOf, headOf, fileOf, versionIn, fieldIn, layoutIn, wordCount, wordIn, wordsIn}
 use Rattle.file.specs.Refusal.{longRung, frameRefusal, bodyRefusal, fileRefusal}
 use Rattle.file.proofs.Ladder.{Accepted, accepted, body-words}
 
@@ -51,7 +51,7 @@ word-past front rest n =
 
 -- ---- from an image to its file and back
 
-length-bytes : (words : List ℕ) → length (bytesOf words) ≡ 4 * length words
+pub length-bytes : (words : List ℕ) → length (bytesOf words) ≡ 4 * length words
 unfolding bytesOf
 length-bytes [] = refl
 length-bytes (word ∷ words) = omega (arith, length-bytes words)
@@ -69,9 +69,6 @@ then-none zero = refl
 then-none (suc number) = refl
 
 module _ (layout : Layout) (words : List ℕ) where
-  headOf : List ℕ
-  headOf = 1 ∷ wordBytes (4 + 4 * length words) ++ layout .shape ∷ layout .s ∷ pairBytes (layout .g)
-
   pub length-file : length (fileOf layout words) ≡ 9 + 4 * length words
   unfolding fileOf
   length-file = omega (arith, length-bytes words)
@@ -86,12 +83,12 @@ module _ (layout : Layout) (words : List ℕ) where
 
   -- what is read of an image's file is the image
   pub words-back : wordsIn (fileOf layout words) ≡ words
-  unfolding wordsIn fileOf headOf
+  unfolding wordsIn fileOf
   words-back =
       let count : wordCount (length (fileOf layout words)) ≡ length words = omega (arith, length-file) in
       ap (λ (n : ℕ). listOf n (wordIn (fileOf layout words))) count
       ∙ sym (list-is (length words) words (wordIn (fileOf layout words)) refl
-      (λ k h. word-back words k h ∙ sym (word-past headOf (bytesOf words) (4 * k))))
+      (λ k h. word-back words k h ∙ sym (word-past (headOf layout (length words)) (bytesOf words) (4 * k))))
 
   version-back : versionIn (fileOf layout words) ≡ 1
   unfolding fileOf

@@ -3,7 +3,7 @@
 use Prim.Native.Nat.{ℕ, _+_, _-_, _*_, _/_, min}
 use mathlib.Core.Path.{_≡_}
 use mathlib.Core.List.{List, [], _∷_, _++_}
-use lib.ListN.{length, getD}
+use lib.ListN.{length, getD, drop}
 use Rattle.ground.specs.Lists.{listOf}
 use Rattle.ground.specs.Stores.{stores}
 use Rattle.layout.specs.declared.Layout.{Layout}
@@ -16,9 +16,20 @@ unfoldable pub bytesOf : List ℕ → List ℕ
 bytesOf [] = []
 bytesOf (word ∷ words) = wordBytes word ++ bytesOf words
 
+-- the nine bytes before the words, of which there are so many
+abbrev pub headOf : Layout → ℕ → List ℕ
+headOf layout count = 1 ∷ wordBytes (4 + 4 * count) ++ layout .shape ∷ layout .s ∷ pairBytes (layout .g)
+
 unfoldable pub fileOf : Layout → List ℕ → List ℕ
-fileOf layout words =
-    1 ∷ wordBytes (4 + 4 * length words) ++ layout .shape ∷ layout .s ∷ pairBytes (layout .g) ++ bytesOf words
+fileOf layout words = headOf layout (length words) ++ bytesOf words
+
+-- how many bytes the file of so many words has
+abbrev pub fileLength : ℕ → ℕ
+fileLength count = 9 + 4 * count
+
+-- a lent buffer with the file written to it from byte 0 on; the bytes past the file are as they were
+abbrev pub fileInto : Layout → List ℕ → List ℕ → List ℕ
+fileInto layout words buffer = fileOf layout words ++ drop (length (fileOf layout words)) buffer
 
 -- ---- from a file to its image: what the bytes say
 

@@ -1,14 +1,15 @@
--- The header is the file's refusal, or the layout that it names: shape, s and G. Assumes nothing.
+-- The header is the file's refusal, or the layout that it names: shape, s and G. Reading a file answers the header too. Assumes nothing.
 use Prim.Native.Nat.{ℕ}
 use mathlib.Core.Path.{_≡_}
 use mathlib.Core.List.{List}
+use lib.ListN.{length}
 use Rattle.ground.specs.Choice.{ifZero}
 use Rattle.layout.specs.declared.Layout.{Layout}
 use Rattle.layout.specs.Layout.{layoutOf}
 use Rattle.file.specs.declared.Header.{Header}
 use Rattle.file.specs.declared.Header.the-variants.{Refused, Image}
-use Rattle.file.specs.Bytes.{layoutIn}
-use Rattle.file.specs.Refusal.{fileRefusal}
+use Rattle.file.specs.Bytes.{layoutIn, wordsIn}
+use Rattle.file.specs.Refusal.{fileRefusal, readRefusal}
 
 -- the specification's number of a header, 0 where it is accepted, and the layout that it names, of zeros where it is refused
 abbrev pub headerNumber : Header → ℕ
@@ -26,8 +27,22 @@ headerIf number header = ifZero number header (Refused number)
 unfoldable pub headerOf : List ℕ → Header
 headerOf bytes = headerIf (fileRefusal bytes) (Image (layoutIn bytes))
 
--- the promise of read_header: number and layout in the specification's values; no refusal has the number 0
-pub record HeaderRead (bytes : List ℕ) (header : Header) : Type 0 where
-  pub number : headerNumber header ≡ fileRefusal bytes
-  pub layout : headerLayout header ≡ ifZero (fileRefusal bytes) (layoutIn bytes) (layoutOf 0 0 0)
+-- what reading the file into an image of some length answers
+unfoldable pub readHeader : List ℕ → ℕ → Header
+readHeader bytes len = headerIf (readRefusal bytes len) (Image (layoutIn bytes))
+
+-- in the specification's values: this refusal, or, where it is 0, this layout; no refusal has the number 0
+pub record Names (refusal : ℕ) (named : Layout) (header : Header) : Type 0 where
+  pub number : headerNumber header ≡ refusal
+  pub layout : headerLayout header ≡ ifZero refusal named (layoutOf 0 0 0)
   pub numbered : header ≡ Refused 0 → ⊥
+
+-- the promise of read_header
+abbrev pub HeaderRead : List ℕ → Header → Type 0
+HeaderRead bytes header = Names (fileRefusal bytes) (layoutIn bytes) header
+
+-- the promise of read_file: the header; the image holds the file's words, or is as it was where anything is refused; the file stays
+pub record ReadsFile (bytes image : List ℕ) (header : Header) (kept after : List ℕ) : Type 0 where
+  pub answers : Names (readRefusal bytes (length image)) (layoutIn bytes) header
+  pub keeps : kept ≡ bytes
+  pub leaves : after ≡ ifZero (readRefusal bytes (length image)) (wordsIn bytes) image

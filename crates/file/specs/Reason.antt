@@ -5,8 +5,9 @@ use mathlib.Core.List.{List, [], _∷_, _++_}
 use lib.ListN.{length, drop}
 use Rattle.layout.specs.Layout.{rowsOf, blocks}
 use Rattle.ground.specs.Rules.{Rule}
-use Rattle.layout.specs.Reason.{layoutRules}
-use Rattle.file.specs.Bytes.{versionIn, fieldIn, layoutIn}
+use Rattle.layout.specs.declared.Layout.{Layout}
+use Rattle.layout.specs.Reason.{badLength, layoutRules, imageRules}
+use Rattle.file.specs.Bytes.{fileOf, versionIn, fieldIn, layoutIn}
 
 -- file above 32,768 bytes
 abbrev pub tooLong : List ℕ → Rule
@@ -39,3 +40,18 @@ fileRules bytes =
     ∷ layoutRules (layoutIn bytes)
     ++ badBody bytes
     ∷ []
+
+-- to be read into an image of some length: those, and then 4 where it is not rows·N words
+abbrev pub readRules : List ℕ → ℕ → List Rule
+readRules bytes len = fileRules bytes ++ badLength len (layoutIn bytes) ∷ []
+
+-- ---- an image that is to be written as a file
+
+-- the buffer is shorter than the file
+abbrev pub noRoom : List ℕ → List ℕ → Rule
+noRoom file buffer = record { number = 12; reason = length buffer < length file }
+
+-- 1, 2, 3, 4, 11, 12
+abbrev pub writeRules : List ℕ → Layout → List ℕ → List Rule
+writeRules image layout buffer =
+    imageRules (length image) layout ++ tooLong (fileOf layout image) ∷ noRoom (fileOf layout image) buffer ∷ []

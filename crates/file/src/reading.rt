@@ -1,6 +1,6 @@
 // The header and the words of a file.
 ghost use Rattle.file.specs.Bytes.{CountsFileWords, ReadsWords};
-ghost use Rattle.file.specs.Header.{HeaderRead};
+ghost use Rattle.file.specs.Header.{HeaderRead, ReadsFile};
 use super::Header;
 use super::refusals::check_body;
 use super::refusals::check_frame;
@@ -43,5 +43,21 @@ pub fn read_words(bytes: &[u8], image: &mut [u32])
     let count = least(word_count(bytes.len()), image.len());
     for k in 0..count {
         image[k] = word_at(bytes, 9 + 4 * k);
+    }
+}
+
+// Copies the words of a file to an image of exactly as many, and says what the header says.
+pub fn read_file(bytes: &[u8], image: &mut [u32]) -> Header
+    ensures { λ r. ⌜ ReadsFile (now (bytes .entry)) (now (image .entry)) r (now (bytes .exit)) (now (image .exit)) ⌝ }
+{
+    match read_header(bytes) {
+        Header::Refused(number) => Header::Refused(number),
+        Header::Image(layout) => {
+            if image.len() != word_count(bytes.len()) {
+                return Header::Refused(4);
+            }
+            read_words(bytes, image);
+            Header::Image(layout)
+        }
     }
 }

@@ -1,9 +1,9 @@
-// The refusals of a file, in their order: the first that applies wins.
+// The refusals of a file, and of an image that is to be written as one, in their order: the first that applies wins.
 ghost use mathlib.Core.Path.{_≡_};
 ghost use Prim.Native.Nat.{_+_, _<_};
 ghost use lib.ListN.{length};
 ghost use Rattle.file.specs.BigEndian.{pairOf, wordAt};
-ghost use Rattle.file.specs.Refusal.{frameRefusal, bodyRefusal};
+ghost use Rattle.file.specs.Refusal.{frameRefusal, bodyRefusal, writeRefusal};
 use layout::Layout;
 
 // The number that one byte holds.
@@ -62,4 +62,22 @@ pub(crate) fn check_body(body: usize, layout: Layout) -> u32
         return 4;
     }
     layout.check_image(body / 4)
+}
+
+// 1, 2, 3, 4, 11 and 12: the layout, the image's length, the length of its file, and the room for it.
+pub(crate) fn check_written(words: usize, layout: Layout, room: usize) -> u32
+    ensures { λ r. ⌜ r ≡ writeRefusal words layout room ⌝ }
+{
+    let refused = layout.check_image(words);
+    if refused != 0 {
+        return refused;
+    }
+    let size = 9 + 4 * words;
+    if 32768 < size {
+        return 11;
+    }
+    if room < size {
+        return 12;
+    }
+    0
 }

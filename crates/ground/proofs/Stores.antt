@@ -1,12 +1,12 @@
 -- What a run of stores leaves: its length, the places that are hit and those that are not. Assumes nothing.
-use Prim.Native.Nat.{ℕ, zero, suc, _≤_, _<_}
+use Prim.Native.Nat.{ℕ, zero, suc, _+_, _≤_, _<_}
 use mathlib.Core.Path.{_≡_, refl, sym, ap, _∙_}
 use mathlib.Core.List.{List, [], _∷_}
 use mathlib.Core.Logic.{⊎-elim}
 use native.Mathlib.Nat.{eq-or-lt-of-le, le-of-suc-le-suc}
 use native.Mathlib.Omega.{arith}
 use lib.ListN.{length, getD, set, length-set}
-use lib.Seq.{getD-set-same, getD-set-other, set-getD}
+use lib.Seq.{getD-set-same, getD-set-other, set-getD, paste, paste-zero, paste-suc}
 use Rattle.ground.specs.Stores.{stores}
 
 pub length-stores : (d : List ℕ) (f v : ℕ → ℕ) (n : ℕ) → length (stores d f v n) ≡ length d
@@ -55,6 +55,14 @@ stores-more d f v n (suc m) l same =
     ⊎-elim (λ e. ap (stores d f v) e)
     (λ b. stores-more d f v n m (le-of-suc-le-suc b) (λ k h g. same k h (omega arith)) ∙ sym (same m (le-of-suc-le-suc b) (omega arith)))
     (eq-or-lt-of-le l)
+
+-- a list that is stored entry by entry from a place on stands there
+pub stores-paste : (d : List ℕ) (at : ℕ) (l : List ℕ) (n : ℕ) → at + n ≤ length d → n ≤ length l
+    → stores d (λ k. at + k) (λ k. getD l k 0) n ≡ paste d at l n
+unfolding stores
+stores-paste d at l zero h g = paste-zero d at l
+stores-paste d at l (suc n) h g =
+    ap (λ (d : List ℕ). set d (at + n) (getD l n 0)) (stores-paste d at l n (omega arith) (omega arith)) ∙ paste-suc d at l n 0 (omega arith) (omega arith)
 
 -- what holds of every entry and of every value stored holds of every entry after
 set-all : (P : ℕ → Type 0) (l : List ℕ) (i v j : ℕ) → ((j : ℕ) → P (getD l j 0)) → P v → P (getD (set l i v) j 0)

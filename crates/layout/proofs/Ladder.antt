@@ -5,14 +5,15 @@ use mathlib.Core.Bool.{not}
 use mathlib.Core.Path.{_≡_, refl, sym, _∙_}
 use mathlib.Core.List.{[], _∷_}
 use mathlib.Core.Logic.{_⊎_, inl, inr, ⊎-elim}
-use native.Mathlib.Nat.{zero-mul, suc-mul, lt-of-not-le}
+use native.Mathlib.Nat.{zero-mul, suc-mul, lt-of-not-le, mul-le-mul}
 use native.Mathlib.Omega.{arith}
 use borrow.Author.Tests.{eq-eqb, ne-eqb, eqb-false, eqb-true, ltb-false, ltb-true, leb-false, leb-true, lt-leb, not-false, not-true}
 use lib.Dec.{ltb, leb, eqb}
+use Rattle.shape.proofs.Sizes.{rows-fit}
 use Rattle.ground.specs.Rules.{FirstOf}
 use Rattle.ground.proofs.Ladder.{Rung, rung-test, rung-tests, rung-passed, then-assoc, then-zero, first-more, not-zero, not-above, not-other}
 use Rattle.layout.specs.declared.Layout.{Layout}
-use Rattle.layout.specs.Layout.{rowsOf, blocks}
+use Rattle.layout.specs.Layout.{shapeOf, rowsOf, blocks}
 use Rattle.layout.specs.Refusal.{shapeRung, interleaveRung, groupsRung, lengthRung, blockRung, layoutRefusal, imageRefusal, blockRefusal}
 use Rattle.layout.specs.Reason.{noShape, badInterleave, badGroups, badLength, noBlock, layoutRules, imageRules, blockRules}
 
@@ -68,7 +69,7 @@ module _ (layout : Layout) where
       rung-tests (badGroups layout) (eqb g 0) (ltb 4096 n) (λ e. inl (eqb-true g 0 e)) (λ e. inr (ltb-true 4096 n e))
       (λ e f. ⊎-elim (eqb-false g 0 e) (λ l. let m = ltb-false 4096 n f in omega arith))
 
-  length-rung : (len : ℕ) → Rung (badLength len layout) (lengthRung len layout)
+  pub length-rung : (len : ℕ) → Rung (badLength len layout) (lengthRung len layout)
   length-rung len =
       rung-test (badLength len layout) (not (eqb len (rowsOf layout * blocks layout)))
       (λ e. eqb-false _ _ (not-true _ e))
@@ -106,6 +107,18 @@ module _ (layout : Layout) where
       let q = then-zero (layoutRefusal layout) (lengthRung len layout) e in
       not-other len (rowsOf layout * blocks layout)
       (rung-passed (badLength len layout) (lengthRung len layout) (λ z. omega arith) (length-rung len) (q .1))
+
+  -- and at most 72·4,096 words
+  pub image-few : (len : ℕ) → imageRefusal len layout ≡ 0 → len ≤ 294912
+  image-few len e =
+      let ok = geometry (image-layout len e) in
+      omega (arith, image-exact len e, mul-le-mul (rows-fit (shapeOf layout)) (ok .n-last))
+
+  -- no more groups than blocks
+  pub groups-few : Geometry layout → layout .g ≤ 4096
+  groups-few ok =
+      let same : layout .g ≤ layout .g = omega arith in
+      omega (arith, ok .n-last, mul-le-mul same (ok .s-first))
 
   pub block-image : (len block : ℕ) → blockRefusal len layout block ≡ 0 → imageRefusal len layout ≡ 0
   unfolding blockRefusal

@@ -1,0 +1,26 @@
+-- What the code computes on its way: bytes put one by one. Assumes nothing.
+use Prim.Native.Nat.{ℕ, _+_, _/_, _%_, _≤_, _<_}
+use mathlib.Core.List.{List}
+use lib.ListN.{set, length, getD}
+use Rattle.layout.specs.declared.Layout.{Layout}
+use Rattle.file.specs.Bytes.{bytesOf, headOf, fileLength}
+
+-- bytes with the four of a word put at a place
+abbrev pub withWord : ℕ → List ℕ → ℕ → List ℕ
+withWord word bytes at =
+    set (set (set (set bytes at (word / 16777216)) (at + 1) (word / 65536 % 256)) (at + 2) (word / 256 % 256)) (at + 3) (word % 256)
+
+-- a byte of the header, and of the words after it
+abbrev pub headByte : Layout → ℕ → ℕ → ℕ
+headByte layout count k = getD (headOf layout count) k 0
+
+abbrev pub bodyByte : List ℕ → ℕ → ℕ
+bodyByte words k = getD (bytesOf words) k 0
+
+-- the layout's numbers fit in their bytes, the file is no longer than 32,768 bytes, and there is room for it
+pub record Small (layout : Layout) (count room : ℕ) : Type 0 where
+  pub shape : layout .shape < 256
+  pub s : layout .s < 256
+  pub g : layout .g < 65536
+  pub most : fileLength count ≤ 32768
+  pub fits : fileLength count ≤ room
