@@ -7,7 +7,10 @@ use Rattle.store.specs.declared.Answer.{Answer}
 use Rattle.rota.specs.declared.Place.{Place}
 use Rattle.patrol.specs.declared.Record.{Record}
 use Rattle.patrol.specs.declared.Report.{Report}
+use Rattle.file.specs.declared.Header.{Header}
+use Rattle.file.specs.declared.Written.{Written}
 use Rattle.words.specs.Answers.{NumbersAnswer, SpellsAnswer, NumbersPlace, SpellsPlace, NumbersReport, SpellsReport}
+use Rattle.words.specs.Files.{NumbersHeader, SpellsHeader, NumbersWritten, SpellsWritten}
 use Rattle.words.specs.Records.{HoldsRecord, SpellsRecord}
 
 -- ---- answers
@@ -29,6 +32,20 @@ one-report-number report m n e f = same e f
 
 pub one-report-words : (report : Report) (a b : List ℕ) → SpellsReport report a → SpellsReport report b → a ≡ b
 one-report-words report a b e f = same e f
+
+-- ---- files
+
+pub one-header-number : (header : Header) (m n : ℕ) → NumbersHeader header m → NumbersHeader header n → m ≡ n
+one-header-number header m n e f = same e f
+
+pub one-header-words : (header : Header) (a b : List ℕ) → SpellsHeader header a → SpellsHeader header b → a ≡ b
+one-header-words header a b e f = same e f
+
+pub one-written-number : (written : Written) (m n : ℕ) → NumbersWritten written m → NumbersWritten written n → m ≡ n
+one-written-number written m n e f = same e f
+
+pub one-written-words : (written : Written) (a b : List ℕ) → SpellsWritten written a → SpellsWritten written b → a ≡ b
+one-written-words written a b e f = same e f
 
 -- ---- records
 
