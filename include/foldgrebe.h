@@ -8,22 +8,36 @@
    Use: format once, write and read blocks by number, and call turn again and again, which patrols the image: each turn
    visits (checks and mends) the next block and one block that was asked for. If at least N turns lie between two flips
    in the same lane of the same block, every read gives what was last written; so long as the record is handed from call
-   to call, every call that is accepted lends the whole image and names its layout, no later format is accepted, one that
-   is refused was lent other words than this record, and nothing but single flips changes the image otherwise.
+   to call, every call that is accepted lends the whole image and names its layout, no later format and no file_read into
+   the image is accepted, a format that is refused was lent other words than this record, and nothing but single flips
+   changes the image otherwise.
 
    Every call answers a number: 0 where it is accepted, or the first refusal, in the order given with the call:
-     1  shape is not 1 or 2                      5  the record is broken
-     2  s is 0 or above 16                       6  there is no block of that number
-     3  g is 0, or there are above 4096 blocks   7  the data or the buffer is not of 11 or 64 words, as the shape wants
-     4  words is not rows * s * g                8  16 other blocks wait already
-   A refused call sets verdict, place and report to zeros and alters nothing else; only a refused format also gives a
-   record of zeros.
+     1  shape is not 1 or 2
+     2  s is 0 or above 16
+     3  g is 0, or there are above 4096 blocks
+     4  words is not rows * s * g, or there are not 4 * rows * s * g bytes after a file's header
+     5  the record is broken
+     6  there is no block of that number
+     7  the data or the buffer is not of 11 or 64 words, as the shape wants
+     8  16 other blocks wait already
+     9  the version of the file is not 1
+    10  the file has fewer than 9 bytes, or its length field is not the number of bytes after byte 4
+    11  the file has, or would have, above 32768 bytes
+    12  the buffer is shorter than the file
+   A refused call sets verdict, place, report, written and layout to zeros and alters nothing else; only a refused format
+   also gives a record of zeros.
+
+   A file is an image as bytes, to be sent or kept: byte 0 is the version, 1; bytes 1 to 4 say how many bytes come after
+   byte 4; then come one byte for the shape, one for s, two for g, and from byte 9 on the words of the image. All numbers
+   have their highest byte first. The record is not in it.
 
    What the caller owes:
-   - each pointer points at as many words as its count or its array says, is aligned for uint32_t, and is not NULL, also
-     where the count is 0;
-   - the parts of memory lent to one call do not overlap, and nothing else uses them until the call is back;
-   - nothing else: any numbers may be passed, and any words may stand in image and record.
+   - each pointer points at as many words, or for a file bytes, as its count or its array says, and is not NULL, also
+     where the count is 0; one to words is aligned for uint32_t, one to bytes need not be;
+   - the parts of memory lent to one call, file and image too, do not overlap, and nothing else uses them until the call is
+     back;
+   - nothing else: any numbers may be passed, and any words or bytes may stand in image, record and file.
    The library keeps nothing between calls, allocates nothing, and may be used from several threads on separate images. */
 #ifndef FOLDGREBE_H
 #define FOLDGREBE_H
@@ -64,6 +78,15 @@ extern "C" {
 #define FOLDGREBE_PLACES            16   /* how many blocks can wait */
 #define FOLDGREBE_RECORD_WORDS      (FOLDGREBE_RECORD_PLACES + FOLDGREBE_PLACES)
 
+/* What a file says of its image. */
+#define FOLDGREBE_LAYOUT_SHAPE      0
+#define FOLDGREBE_LAYOUT_INTERLEAVE 1    /* s */
+#define FOLDGREBE_LAYOUT_GROUPS     2    /* g */
+#define FOLDGREBE_LAYOUT_WORDS      3
+
+/* No file is longer, so a buffer of so many bytes always does. */
+#define FOLDGREBE_FILE_BYTES 32768
+
 /* Sets every word of the image to zero, which is zero data in every block, and gives a new record. Refuses 1, 2, 3, 4.
    Refused, it gives a record of zeros: lend it other words than those of a record that is in use, or that one is gone. */
 uint32_t foldgrebe_format(uint32_t *image, size_t words, uint32_t shape, uint32_t s, uint32_t g, uint32_t record[FOLDGREBE_RECORD_WORDS]);
@@ -86,6 +109,19 @@ uint32_t foldgrebe_ask   (uint32_t record[FOLDGREBE_RECORD_WORDS], uint32_t bloc
 /* Visits the next block, then the block at place 1 if one waits, and moves the record on. The report has the block, its
    verdict and count, then the same of the block asked for, or zeros where none waited. Refuses 1, 2, 3, 4, 5. */
 uint32_t foldgrebe_turn  (uint32_t record[FOLDGREBE_RECORD_WORDS], uint32_t *image, size_t words, uint32_t report[FOLDGREBE_REPORT_WORDS]);
+
+/* Writes the image as a file of 9 + 4 * words bytes, from the buffer's byte 0 on, and gives its length; the bytes behind it
+   stay as they were, and so does the image. Refuses 1, 2, 3, 4, 11, 12. Refused, it writes no byte, and the length is 0. */
+uint32_t foldgrebe_file_write (const uint32_t *image, size_t words, uint32_t shape, uint32_t s, uint32_t g, uint8_t *file, size_t bytes,
+                               uint32_t written[1]);
+
+/* Tells what the file says of its image: shape, s and g. Refuses 11, 10 (below 9 bytes), 9, 10 (length field), 1, 2, 3, 4,
+   as the inspecting program does. */
+uint32_t foldgrebe_file_layout(const uint8_t *file, size_t bytes, uint32_t layout[FOLDGREBE_LAYOUT_WORDS]);
+
+/* Copies the file's words to an image of exactly rows * s * g words, by its own layout, which it tells too; nothing is
+   mended. Refuses as file_layout does, and then 4 where the image is of another length. Refused, the image stays as it was. */
+uint32_t foldgrebe_file_read  (const uint8_t *file, size_t bytes, uint32_t *image, size_t words, uint32_t layout[FOLDGREBE_LAYOUT_WORDS]);
 
 #ifdef __cplusplus
 }
