@@ -349,3 +349,87 @@ uint32_t foldgrebe_turn(uint32_t record[FOLDGREBE_RECORD_WORDS], uint32_t *image
     serve(record);
     return 0;
 }
+
+/* A file's header: the version, the length field, which counts the bytes behind it, shape, s and G. */
+enum { VERSION = 0, FIELD = 1, FIELD_END = 5, FILE_SHAPE = 5, FILE_INTERLEAVE = 6, FILE_GROUPS = 7, HEADER = 9, BYTES = 4, AT_ONCE = 8 };
+
+/* A word whose bytes in memory are w's, highest first. Of four byte stores a word gcc 12 makes no swap but long vector code. */
+INLINE uint32_t highest_first(uint32_t w) { return __BYTE_ORDER__ == __ORDER_LITTLE_ENDIAN__ ? __builtin_bswap32(w) : w; }
+
+INLINE void put_word(uint8_t *to, uint32_t w) { w = highest_first(w), memcpy(to, &w, BYTES); }
+
+INLINE uint32_t word_at(const uint8_t *from)
+{
+    uint32_t w;
+    memcpy(&w, from, BYTES);
+    return highest_first(w);
+}
+
+INLINE uint32_t groups_at(const uint8_t *file) { return (uint32_t)file[FILE_GROUPS] << 8 | file[FILE_GROUPS + 1]; }
+
+/* The words of an image are 16 or 72 a block, so eight at once come out even. */
+static void put_words(uint8_t *restrict to, const uint32_t *restrict image, size_t words)
+{
+    for (size_t i = 0; i < words; i += AT_ONCE, image += AT_ONCE, to += BYTES * AT_ONCE) {
+#pragma GCC unroll 8
+        for (unsigned k = 0; k < AT_ONCE; k++) put_word(to + BYTES * k, image[k]);
+    }
+}
+
+static void take_words(uint32_t *restrict image, const uint8_t *restrict from, size_t words)
+{
+    for (size_t i = 0; i < words; i += AT_ONCE, image += AT_ONCE, from += BYTES * AT_ONCE) {
+#pragma GCC unroll 8
+        for (unsigned k = 0; k < AT_ONCE; k++) image[k] = word_at(from + BYTES * k);
+    }
+}
+
+static uint32_t refuse_file(const uint8_t *file, size_t bytes)
+{
+    if (bytes > FOLDGREBE_FILE_BYTES) return 11;
+    if (bytes < HEADER) return 10;
+    if (file[VERSION] != 1) return 9;
+    if (word_at(file + FIELD) != bytes - FIELD_END) return 10;
+    uint32_t shape = file[FILE_SHAPE], s = file[FILE_INTERLEAVE], g = groups_at(file), number = refuse_layout(shape, s, g);
+    if (number) return number;
+    return bytes - HEADER == (size_t)BYTES * rows_of(shape) * s * g ? 0 : 4;
+}
+
+/* The layout of a file that is not refused, or zeros. */
+static uint32_t tell_layout(uint32_t number, const uint8_t *file, uint32_t *layout)
+{
+    layout[FOLDGREBE_LAYOUT_SHAPE] = number ? 0 : file[FILE_SHAPE];
+    layout[FOLDGREBE_LAYOUT_INTERLEAVE] = number ? 0 : file[FILE_INTERLEAVE];
+    layout[FOLDGREBE_LAYOUT_GROUPS] = number ? 0 : groups_at(file);
+    return number;
+}
+
+uint32_t foldgrebe_file_write(const uint32_t *image, size_t words, uint32_t shape, uint32_t s, uint32_t g, uint8_t *file, size_t bytes,
+                              uint32_t written[1])
+{
+    uint32_t number = refuse_image(words, shape, s, g);
+    *written = 0;
+    if (number) return number;
+    size_t length = HEADER + BYTES * words;
+    if (length > FOLDGREBE_FILE_BYTES) return 11;
+    if (bytes < length) return 12;
+    file[VERSION] = 1, put_word(file + FIELD, (uint32_t)(length - FIELD_END));
+    file[FILE_SHAPE] = (uint8_t)shape, file[FILE_INTERLEAVE] = (uint8_t)s;
+    file[FILE_GROUPS] = (uint8_t)(g >> 8), file[FILE_GROUPS + 1] = (uint8_t)g;
+    put_words(file + HEADER, image, words);
+    *written = (uint32_t)length;
+    return 0;
+}
+
+uint32_t foldgrebe_file_layout(const uint8_t *file, size_t bytes, uint32_t layout[FOLDGREBE_LAYOUT_WORDS])
+{
+    return tell_layout(refuse_file(file, bytes), file, layout);
+}
+
+uint32_t foldgrebe_file_read(const uint8_t *file, size_t bytes, uint32_t *image, size_t words, uint32_t layout[FOLDGREBE_LAYOUT_WORDS])
+{
+    uint32_t number = refuse_file(file, bytes);
+    if (number == 0 && words != (bytes - HEADER) / BYTES) number = 4;
+    if (number == 0) take_words(image, file + HEADER, words);
+    return tell_layout(number, file, layout);
+}
