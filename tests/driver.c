@@ -1,19 +1,22 @@
 /* Runs a stream of calls on the library and prints what each answers and leaves, in the text of tests/README.md.
-   Guard words stand around everything that is lent; a line says so where one of them, or data, was altered. */
+   Guard words or bytes stand around everything that is lent; a line says so where one of them, or data, was altered. */
 #include <stdio.h>
 #include <stdlib.h>
 #include <string.h>
 #include <sys/mman.h>
 #include "foldgrebe.h"
 
-enum { GUARDS = 64, MOST_WORDS = 72 * 4096, MOST_LIST = 80, MOST_CHANGES = 144 };
+enum { GUARDS = 64, MOST_WORDS = 72 * 4096, MOST_LIST = 80, MOST_CHANGES = 144, MOST_BYTES = FOLDGREBE_FILE_BYTES + 1024 };
 static const uint32_t STALE = 0xdeadbeef;   /* what outputs hold before a call */
 
 /* Words that are lent, with guard words before and behind. */
 typedef struct { uint32_t *room, *words; size_t length; const char *name; } lent;
 
-static lent image, record, list, verdict, place, report;
+static lent image, record, list, verdict, place, report, written, told;
 static uint32_t *shadow;                     /* the image as it was before the call */
+static uint8_t *file_room, *file;            /* the room for a file, with guard bytes before and behind */
+static size_t file_length;
+static uint8_t file_shadow[MOST_BYTES];      /* the file as it was before the call */
 static char *at;                             /* where in the stream we read */
 
 static uint32_t guard(size_t i) { return 0xa5c3e100u ^ (uint32_t)i * 0x9e3779b1u; }
@@ -33,6 +36,20 @@ static int guards_stand(const lent *l)
     return 1;
 }
 
+static uint8_t byte_guard(size_t i) { return (uint8_t)(guard(i) >> 24); }
+
+static void set_file_guards(void)
+{
+    for (size_t i = 0; i < GUARDS; i++) file[-1 - (ptrdiff_t)i] = byte_guard(i), file[file_length + i] = byte_guard(GUARDS + i);
+}
+
+static int file_guards_stand(void)
+{
+    for (size_t i = 0; i < GUARDS; i++)
+        if (file[-1 - (ptrdiff_t)i] != byte_guard(i) || file[file_length + i] != byte_guard(GUARDS + i)) return 0;
+    return 1;
+}
+
 static void make_room(lent *l, const char *name, size_t most)
 {
     l->name = name;
@@ -41,16 +58,23 @@ static void make_room(lent *l, const char *name, size_t most)
     set_guards(l, l->room + GUARDS, most);
 }
 
-/* Behind the image lies room for counts above 2^32, reserved but not to be touched: a call that takes such a count for a
-   good one ends the driver at once. */
-static void make_image_room(void)
+/* Behind what is open lies room for a count above 2^32 of what is lent, reserved but not to be touched: a call that takes such
+   a count for a good one ends the driver at once. */
+static void *make_wide_room(size_t least, size_t reserved)
 {
-    size_t open = ((size_t)MOST_WORDS * sizeof *shadow + (1 << 16)) & ~(size_t)4095, all = ((size_t)1 << 34) + ((size_t)1 << 24);
-    void *room = mmap(NULL, all, PROT_NONE, MAP_PRIVATE | MAP_ANONYMOUS | MAP_NORESERVE, -1, 0);
+    size_t open = (least + (1 << 16)) & ~(size_t)4095;
+    void *room = mmap(NULL, reserved + ((size_t)1 << 24), PROT_NONE, MAP_PRIVATE | MAP_ANONYMOUS | MAP_NORESERVE, -1, 0);
     if (room == MAP_FAILED) room = mmap(NULL, open, PROT_NONE, MAP_PRIVATE | MAP_ANONYMOUS, -1, 0);
     if (room == MAP_FAILED || mprotect(room, open, PROT_READ | PROT_WRITE)) die("no memory");
-    image.name = "image", image.room = room;
+    return room;
+}
+
+static void make_wide_rooms(void)
+{
+    image.name = "image", image.room = make_wide_room((size_t)MOST_WORDS * sizeof *shadow, (size_t)1 << 34);
     set_guards(&image, image.room + GUARDS, 0);
+    file_room = make_wide_room(MOST_BYTES, (size_t)1 << 32), file = file_room + GUARDS;
+    set_file_guards();
 }
 
 static uint64_t number(void)
@@ -82,11 +106,20 @@ static void say_number(uint64_t n)
 
 static void say_words(const uint32_t *words, size_t n) { for (size_t i = 0; i < n; i++) say_number(words[i]); }
 
-/* FNV-1a in 64 bits, a word at a step. */
+/* FNV-1a in 64 bits, a word or a byte at a step. */
+static uint64_t step(uint64_t h, uint64_t by) { return (h ^ by) * 0x100000001b3u; }
+
 static uint64_t hash(const uint32_t *words, size_t n)
 {
     uint64_t h = 0xcbf29ce484222325u;
-    for (size_t i = 0; i < n; i++) h = (h ^ words[i]) * 0x100000001b3u;
+    for (size_t i = 0; i < n; i++) h = step(h, words[i]);
+    return h;
+}
+
+static uint64_t hash_bytes(const uint8_t *bytes, size_t n)
+{
+    uint64_t h = 0xcbf29ce484222325u;
+    for (size_t i = 0; i < n; i++) h = step(h, bytes[i]);
     return h;
 }
 
@@ -103,14 +136,33 @@ static void say_changes(void)
     memcpy(shadow, image.words, image.length * sizeof *shadow);
 }
 
+/* What a call leaves in the room for a file: how many bytes are others, and a hash of all. */
+static void say_file(void)
+{
+    size_t changed = 0;
+    for (size_t i = 0; i < file_length; i++) changed += file[i] != file_shadow[i];
+    say_number(changed), say_number(hash_bytes(file, file_length));
+    memcpy(file_shadow, file, file_length);
+}
+
+static void say_if_altered(void)
+{
+    if (memcmp(file_shadow, file, file_length) == 0) return;
+    say(" FILE altered");
+    memcpy(file_shadow, file, file_length);
+}
+
 static void say_guards(void)
 {
-    lent *all[] = { &image, &record, &list, &verdict, &place, &report };
-    for (unsigned i = 0; i < 6; i++) {
+    lent *all[] = { &image, &record, &list, &verdict, &place, &report, &written, &told };
+    for (unsigned i = 0; i < sizeof all / sizeof *all; i++) {
         if (guards_stand(all[i])) continue;
         say(" GUARD "), say(all[i]->name);
         set_guards(all[i], all[i]->words, all[i]->length);
     }
+    if (file_guards_stand()) return;
+    say(" GUARD file");
+    set_file_guards();
 }
 
 /* The image begins at every word of 16 bytes in turn, so that code that wants more alignment is found out. */
@@ -136,11 +188,35 @@ static void flip(void)
     }
 }
 
+/* The file begins at every byte of 16 in turn, for bytes need no alignment. */
+static void set_file(void)
+{
+    static unsigned offset;
+    size_t length = number();
+    if (length > MOST_BYTES) die("file too long");
+    offset = (offset + 1) % 16;
+    file = file_room + GUARDS + offset, file_length = length;
+    set_file_guards();
+    memset(file, 0, length);
+    for (size_t i = 0; more(); i++) file[i] = (uint8_t)number();
+    memcpy(file_shadow, file, length);
+}
+
+static void spoil(void)
+{
+    while (more()) {
+        size_t index = number();
+        if (index >= file_length) die("spoil outside the file");
+        file[index] = file_shadow[index] = (uint8_t)number();
+    }
+}
+
 static void stale_outputs(void)
 {
     for (unsigned i = 0; i < FOLDGREBE_VERDICT_WORDS; i++) verdict.words[i] = STALE;
     for (unsigned i = 0; i < FOLDGREBE_REPORT_WORDS; i++) report.words[i] = STALE;
-    place.words[0] = STALE;
+    for (unsigned i = 0; i < FOLDGREBE_LAYOUT_WORDS; i++) told.words[i] = STALE;
+    place.words[0] = written.words[0] = STALE;
 }
 
 typedef struct { size_t words; uint32_t shape, s, g; } layout;
@@ -210,8 +286,40 @@ static void turn(void)
     say_words(record.words, FOLDGREBE_RECORD_WORDS);
 }
 
+/* A count above 2^32 is lent too: what lies behind the room is not to be touched. */
+static size_t lent_bytes(void)
+{
+    size_t bytes = number();
+    if (bytes > file_length && bytes < (size_t)1 << 32) die("more bytes lent than there are");
+    return bytes;
+}
+
+static void file_write(void)
+{
+    layout l = read_layout();
+    say_number(foldgrebe_file_write(image.words, l.words, l.shape, l.s, l.g, file, lent_bytes(), written.words));
+    say_words(written.words, 1);
+    say_file();
+}
+
+static void file_layout(void)
+{
+    say_number(foldgrebe_file_layout(file, lent_bytes(), told.words));
+    say_words(told.words, FOLDGREBE_LAYOUT_WORDS);
+    say_if_altered();
+}
+
+static void file_read(void)
+{
+    size_t words = number();
+    say_number(foldgrebe_file_read(file, lent_bytes(), image.words, words, told.words));
+    say_words(told.words, FOLDGREBE_LAYOUT_WORDS);
+    say_if_altered();
+}
+
 static const struct { const char *name; void (*run)(void); } calls[] = {
     { "format", format }, { "write", write_block }, { "read", read_block }, { "visit", visit }, { "ask", ask }, { "turn", turn },
+    { "file_write", file_write }, { "file_layout", file_layout }, { "file_read", file_read },
 };
 
 static int starts(const char *word)
@@ -240,6 +348,8 @@ static void run_line(void)
 {
     if (starts("image")) set_image();
     else if (starts("flip")) flip();
+    else if (starts("file ")) set_file();
+    else if (starts("spoil")) spoil();
     else if (starts("record")) for (unsigned i = 0; i < FOLDGREBE_RECORD_WORDS; i++) record.words[i] = (uint32_t)number();
     else { run_call(); say("\n"); return; }
     say(".\n");
@@ -251,12 +361,14 @@ int main(int argc, char **argv)
     char *line = NULL;
     size_t room = 0;
     int each = argc > 1 && argv[1] != NULL;
-    make_image_room();
+    make_wide_rooms();
     make_room(&record, "record", FOLDGREBE_RECORD_WORDS);
     make_room(&list, "list", MOST_LIST);
     make_room(&verdict, "verdict", FOLDGREBE_VERDICT_WORDS);
     make_room(&place, "place", 1);
     make_room(&report, "report", FOLDGREBE_REPORT_WORDS);
+    make_room(&written, "written", 1);
+    make_room(&told, "layout", FOLDGREBE_LAYOUT_WORDS);
     shadow = calloc(MOST_WORDS, sizeof *shadow);
     if (!shadow) die("no memory");
     while (getline(&line, &room, stdin) > 0) {

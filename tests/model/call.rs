@@ -1,6 +1,7 @@
 //! A call as a value, the lent words that it works on, and what it answers and leaves.
 
 use crate::block::Outcome;
+use crate::file::{self, Told};
 use crate::patrol::{self, Record};
 use crate::store;
 
@@ -12,17 +13,30 @@ pub enum Name {
     Visit,
     Ask,
     Turn,
+    FileWrite,
+    FileLayout,
+    FileRead,
 }
 
 impl Name {
-    pub const ALL: [Name; 6] = [Name::Format, Name::Write, Name::Read, Name::Visit, Name::Ask, Name::Turn];
+    pub const ALL: [Name; 9] = [
+        Name::Format,
+        Name::Write,
+        Name::Read,
+        Name::Visit,
+        Name::Ask,
+        Name::Turn,
+        Name::FileWrite,
+        Name::FileLayout,
+        Name::FileRead,
+    ];
 
     pub fn text(self) -> &'static str {
-        ["format", "write", "read", "visit", "ask", "turn"][self as usize]
+        ["format", "write", "read", "visit", "ask", "turn", "file_write", "file_layout", "file_read"][self as usize]
     }
 
     pub fn takes_image(self) -> bool {
-        self != Name::Ask
+        !matches!(self, Name::Ask | Name::FileLayout)
     }
 
     pub fn takes_record(self) -> bool {
@@ -30,15 +44,24 @@ impl Name {
     }
 
     pub fn takes_layout(self) -> bool {
-        !matches!(self, Name::Ask | Name::Turn)
+        matches!(self, Name::Format | Name::Write | Name::Read | Name::Visit | Name::FileWrite)
+    }
+
+    pub fn takes_block(self) -> bool {
+        matches!(self, Name::Write | Name::Read | Name::Visit | Name::Ask)
     }
 
     pub fn takes_list(self) -> bool {
         matches!(self, Name::Write | Name::Read)
     }
+
+    pub fn takes_file(self) -> bool {
+        matches!(self, Name::FileWrite | Name::FileLayout | Name::FileRead)
+    }
 }
 
-/// A call with its arguments; those that its name does not take are not looked at. `list` is the data or the buffer.
+/// A call with its arguments; those that its name does not take are not looked at. `list` is the data or the buffer, `bytes` how much
+/// of the lent file's room is lent.
 #[derive(Clone, Debug)]
 pub struct Call {
     pub name: Name,
@@ -48,6 +71,7 @@ pub struct Call {
     pub g: u32,
     pub block: u32,
     pub list: Vec<u32>,
+    pub bytes: u64,
 }
 
 /// What goes from call to call.
@@ -55,9 +79,11 @@ pub struct Call {
 pub struct Lent {
     pub image: Vec<u32>,
     pub record: Record,
+    pub file: Vec<u8>,
 }
 
-/// The number; block, verdict, count twice over (a turn's report; other calls use the first three, an ask the place).
+/// The number; block, verdict, count twice over (a turn's report; other calls use the first three, for a file shape, s and G);
+/// the place of an ask, or the bytes that a file has.
 #[derive(Clone, Default, Debug)]
 pub struct Answer {
     pub number: u32,
@@ -67,6 +93,10 @@ pub struct Answer {
 
 fn outcome_answer(number: u32, outcome: Outcome) -> Answer {
     Answer { number, report: [0, outcome.verdict, outcome.count, 0, 0, 0], place: 0 }
+}
+
+fn file_answer((number, [shape, s, g]): (u32, Told)) -> Answer {
+    Answer { number, report: [shape, s, g, 0, 0, 0], place: 0 }
 }
 
 /// Runs a call on the model; a read changes the call's own list.
@@ -96,6 +126,12 @@ pub fn run(call: &mut Call, lent: &mut Lent) -> Answer {
             Answer { number, place, ..Answer::default() }
         }
         Name::Turn => run_turn(lent, words),
+        Name::FileWrite => {
+            let (number, place) = file::write(&lent.image, words, [shape, s, g], &mut lent.file, call.bytes);
+            Answer { number, place, ..Answer::default() }
+        }
+        Name::FileLayout => file_answer(file::layout(&lent.file, call.bytes)),
+        Name::FileRead => file_answer(file::read(&lent.file, call.bytes, &mut lent.image, words)),
     }
 }
 

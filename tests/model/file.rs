@@ -1,45 +1,107 @@
-//! The image file, and what the inspecting program prints of it.
+//! The image file: how it is written, told of and read, and what the inspecting program prints of it.
 
 use crate::{block, store};
 
+/// A longer file is refused.
+pub const LONGEST: usize = 32768;
+pub const HEADER: usize = 9;
+
+/// Shape, s and G.
+pub type Told = [u32; 3];
+
 /// The big-endian number in some bytes.
-fn number_in(bytes: &[u8]) -> u64 {
+pub fn number_in(bytes: &[u8]) -> u64 {
     bytes.iter().fold(0, |n, byte| n * 256 + u64::from(*byte))
 }
 
 /// The file's refusals in their order: 11, 10 (below 9 bytes), 9, 10 (length field), 1, 2, 3, 4; or 0.
-fn refuse(file: &[u8]) -> u32 {
-    if file.len() > 32768 {
+/// The count of bytes that is lent stands beside the bytes, since a test may lend more than there can be.
+pub fn refuse(file: &[u8], bytes: u64) -> u32 {
+    if bytes > LONGEST as u64 {
         return 11;
     }
-    if file.len() < 9 {
+    if bytes < HEADER as u64 {
         return 10;
     }
     if file[0] != 1 {
         return 9;
     }
-    if number_in(&file[1..5]) != file.len() as u64 - 5 {
+    if number_in(&file[1..5]) != bytes - 5 {
         return 10;
     }
-    let (shape, s, g) = layout(file);
+    let [shape, s, g] = told(file);
     match store::refuse_layout(shape, s, g) {
-        0 if file.len() as u64 - 9 != 4 * block::rows(shape) as u64 * store::blocks(s, g) => 4,
+        0 if bytes - HEADER as u64 != 4 * words_told(file) => 4,
         number => number,
     }
 }
 
-fn layout(file: &[u8]) -> (u32, u32, u32) {
-    (u32::from(file[5]), u32::from(file[6]), number_in(&file[7..9]) as u32)
+fn told(file: &[u8]) -> Told {
+    [u32::from(file[5]), u32::from(file[6]), number_in(&file[7..9]) as u32]
+}
+
+/// The words of the image that a header with a good layout tells of.
+fn words_told(file: &[u8]) -> u64 {
+    let [shape, s, g] = told(file);
+    block::rows(shape) as u64 * store::blocks(s, g)
+}
+
+fn words_in(file: &[u8]) -> Vec<u32> {
+    file[HEADER..].chunks(4).map(|word| number_in(word) as u32).collect()
+}
+
+/// The first of refusals 1, 2, 3, 4, 11, 12 that applies, or 0.
+fn refuse_write(words: u64, shape: u32, s: u32, g: u32, bytes: u64) -> u32 {
+    match store::refuse_image(words, shape, s, g) {
+        0 if HEADER as u64 + 4 * words > LONGEST as u64 => 11,
+        0 if HEADER as u64 + 4 * words > bytes => 12,
+        number => number,
+    }
+}
+
+/// Writes the image's file into a buffer; answers the number and the file's length.
+pub fn write(image: &[u32], words: u64, [shape, s, g]: Told, file: &mut [u8], bytes: u64) -> (u32, u32) {
+    let number = refuse_write(words, shape, s, g, bytes);
+    if number != 0 {
+        return (number, 0);
+    }
+    let whole = file_of(shape, s, g, image);
+    file[..whole.len()].copy_from_slice(&whole);
+    (0, whole.len() as u32)
+}
+
+/// Answers the number, and what the file says of its image.
+pub fn layout(file: &[u8], bytes: u64) -> (u32, Told) {
+    let number = refuse(file, bytes);
+    (number, if number == 0 { told(file) } else { [0; 3] })
+}
+
+/// A file's refusals, and then 4 where the image is not of the length that it tells; or 0.
+pub fn refuse_read(file: &[u8], bytes: u64, words: u64) -> u32 {
+    match refuse(file, bytes) {
+        0 if words != words_told(file) => 4,
+        number => number,
+    }
+}
+
+/// Copies a file's words to an image; answers the number, and what the file says of them.
+pub fn read(file: &[u8], bytes: u64, image: &mut [u32], words: u64) -> (u32, Told) {
+    let number = refuse_read(file, bytes, words);
+    if number != 0 {
+        return (number, [0; 3]);
+    }
+    image.copy_from_slice(&words_in(&file[..bytes as usize]));
+    (0, told(file))
 }
 
 /// Everything that the inspecting program prints for a file.
 pub fn inspect(file: &[u8]) -> String {
-    let number = refuse(file);
+    let number = refuse(file, file.len() as u64);
     if number != 0 {
         return format!("refused {number}\n");
     }
-    let (shape, s, g) = layout(file);
-    let mut image: Vec<u32> = file[9..].chunks(4).map(|word| number_in(word) as u32).collect();
+    let [shape, s, g] = told(file);
+    let mut image = words_in(file);
     let n = store::blocks(s, g);
     let mut text = format!("image shape {shape} interleave {s} groups {g} blocks {n}\n");
     let mut blocks = [0; 4];
@@ -57,12 +119,18 @@ pub fn inspect(file: &[u8]) -> String {
     text
 }
 
+/// The nine bytes before so many words.
+pub fn header(shape: u32, s: u32, g: u32, words: usize) -> Vec<u8> {
+    let mut header = vec![1];
+    header.extend((4 + 4 * words as u32).to_be_bytes());
+    header.extend([shape as u8, s as u8]);
+    header.extend((g as u16).to_be_bytes());
+    header
+}
+
 /// The file of an image.
 pub fn file_of(shape: u32, s: u32, g: u32, image: &[u32]) -> Vec<u8> {
-    let mut file = vec![1];
-    file.extend((4 + 4 * image.len() as u32).to_be_bytes());
-    file.extend([shape as u8, s as u8]);
-    file.extend((g as u16).to_be_bytes());
+    let mut file = header(shape, s, g, image.len());
     for word in image {
         file.extend(word.to_be_bytes());
     }

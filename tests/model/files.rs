@@ -3,12 +3,9 @@
 use std::{fs, io};
 
 use crate::block;
-use crate::file;
+use crate::file::{self, LONGEST};
 use crate::generate::{self, Layout};
 use crate::random::Random;
-
-/// The longest file that is looked into.
-const LONGEST: usize = 32768;
 
 /// Layouts whose files are short enough, from one block to as many as fit.
 fn file_layout(r: &mut Random) -> Layout {

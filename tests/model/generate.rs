@@ -1,10 +1,12 @@
 //! Random calls: layouts, images with harm done to them, records good and broken, arguments good and bad.
-//! A scene is one layout with an image and a record, and some dozens of calls on them.
+//! A scene is one layout with an image, a record and the room for a file, and some dozens of calls on them.
 
 use crate::block;
 use crate::call::{Call, Lent, Name};
+use crate::file;
 use crate::patrol::{Record, NEXT, PLACE, WAITING};
 use crate::random::Random;
+use crate::room;
 use crate::store;
 
 #[derive(Clone, Copy, Debug)]
@@ -34,14 +36,22 @@ pub fn tiny_layout(r: &mut Random) -> Layout {
     Layout { shape, s, g }
 }
 
-/// Mostly a few blocks, often enough for a full waiting list, now and then as many as there may be.
+/// The most blocks that fit in a file, and one more.
+const FILE_EDGES: [(u32, u32, u32); 8] =
+    [(1, 1, 511), (1, 7, 73), (1, 1, 512), (1, 16, 32), (2, 1, 113), (2, 1, 114), (2, 16, 7), (2, 6, 19)];
+
+/// Mostly a few blocks, often enough for a full waiting list, now and then as many as a file takes or as there may be.
 pub fn any_layout(r: &mut Random) -> Layout {
     let shape = r.from_to(1, 2);
     let (s, g) = match r.below(1000) {
         0..=349 => (r.from_to(1, 4), r.from_to(1, 3)),
         350..=599 => (r.from_to(1, 16), r.from_to(1, 2)),
         600..=899 => r.pick(&[(16, 1), (1, 17), (16, 2), (6, 3), (1, 20), (9, 2), (2, 9), (5, 4), (3, 6)]),
-        900..=993 => (r.from_to(1, 16), r.from_to(1, 6)),
+        900..=981 => (r.from_to(1, 16), r.from_to(1, 6)),
+        982..=993 => {
+            let (shape, s, g) = r.pick(&FILE_EDGES);
+            return Layout { shape, s, g };
+        }
         _ => r.pick(&[(16, 256), (1, 4096), (16, 255), (6, 682), (15, 273), (2, 2048), (13, 315), (1, 4095)]),
     };
     Layout { shape, s, g }
@@ -183,7 +193,7 @@ fn spoilt_layout(r: &mut Random, at: Layout) -> [u32; 3] {
 }
 
 /// Another layout of an image as long, where there is one: a call with it is accepted too.
-fn same_length(r: &mut Random, at: Layout) -> Layout {
+pub fn same_length(r: &mut Random, at: Layout) -> Layout {
     let shape = r.from_to(1, 2);
     let rows = block::rows(shape);
     let s = r.from_to(1, 16);
@@ -194,23 +204,30 @@ fn same_length(r: &mut Random, at: Layout) -> Layout {
     at
 }
 
-/// One call, with good arguments or with one to three bad ones.
-pub fn any_call(r: &mut Random, at: Layout, lent: &Lent) -> Call {
-    let weights = [5, 14, 15, 23, 19, 24];
-    let mut ticket = r.below(100);
+fn any_name(r: &mut Random) -> Name {
+    let weights = [5, 14, 15, 23, 19, 24, 8, 5, 7];
+    let mut ticket = r.below(weights.iter().sum());
     let mut which = 0;
     while ticket >= weights[which] {
         ticket -= weights[which];
         which += 1;
     }
-    let name = Name::ALL[which];
+    Name::ALL[which]
+}
+
+/// One call, with good arguments or with one to three bad ones.
+pub fn any_call(r: &mut Random, at: Layout, lent: &Lent) -> Call {
+    let name = any_name(r);
     let block = r.below(u64::from(at.blocks())) as u32;
     let mut length = block::data_words(at.shape);
-    let mut call = Call { name, words: at.words() as u64, shape: at.shape, s: at.s, g: at.g, block, list: Vec::new() };
+    let mut call = Call { name, words: at.words() as u64, shape: at.shape, s: at.s, g: at.g, block, list: Vec::new(), bytes: 0 };
     if r.chance(if name == Name::Format { 65 } else { 35 }) {
         for _ in 0..r.pick(&[1, 1, 1, 2, 2, 3]) {
             spoil(r, at, &mut call, &mut length);
         }
+    }
+    if name.takes_file() {
+        call.bytes = room::any_bytes(r, at, name, &lent.file);
     }
     honest_words(&mut call, at, lent);
     if name.takes_list() {
@@ -245,12 +262,13 @@ fn spoil(r: &mut Random, at: Layout, call: &mut Call, length: &mut usize) {
 
 /// A call that is accepted lends exactly the image; a count beyond it may only be lent where it is refused.
 fn honest_words(call: &mut Call, at: Layout, lent: &Lent) {
-    let (shape, s, g) = if call.name == Name::Turn {
-        (lent.record[0], lent.record[1], lent.record[2])
-    } else {
-        (call.shape, call.s, call.g)
+    let record = &lent.record;
+    let number = match call.name {
+        Name::Turn => store::refuse_image(call.words, record[0], record[1], record[2]),
+        Name::FileRead => file::refuse_read(&lent.file, call.bytes, call.words),
+        _ => store::refuse_image(call.words, call.shape, call.s, call.g),
     };
-    if store::refuse_image(call.words, shape, s, g) == 0 {
+    if number == 0 {
         call.words = at.words() as u64;
     }
 }

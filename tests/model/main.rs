@@ -15,6 +15,7 @@ mod generate;
 mod lane;
 mod patrol;
 mod random;
+mod room;
 mod store;
 mod stream;
 mod text;

@@ -5,8 +5,10 @@ use std::fs::File;
 use std::io::{self, BufWriter, Write};
 
 use crate::call::{self, Answer, Call, Lent, Name};
-use crate::generate;
+use crate::file;
+use crate::generate::{self, Layout};
 use crate::random::Random;
+use crate::room;
 use crate::text;
 
 /// How often each call gave each answer.
@@ -29,13 +31,13 @@ impl Stream {
         let before = lent.clone();
         writeln!(self.calls, "{}", text::call_line(&call))?;
         let answer = call::run(&mut call, lent);
-        writeln!(self.expected, "{}", text::answer_line(&call, &answer, &before.image, lent))?;
+        writeln!(self.expected, "{}", text::answer_line(&call, &answer, &before, lent))?;
         *self.tally.entry(kind(&call, &answer, &before)).or_default() += 1;
         Ok(())
     }
 }
 
-/// The call, its number, and which kind of accepted answer it is.
+/// The call, its number, and which kind of accepted answer it is, or which reason a number has.
 pub fn kind(call: &Call, answer: &Answer, before: &Lent) -> String {
     let verdict = |v: u32| ["none", "clean", "mended", "lost"][v as usize];
     let detail = match (call.name, answer.number) {
@@ -46,6 +48,12 @@ pub fn kind(call: &Call, answer: &Answer, before: &Lent) -> String {
         (Name::Ask, 0) if !before.record[5..][..before.record[4] as usize].contains(&call.block) => "new",
         (Name::Ask, 0) if before.record[4] == 16 => "again-full",
         (Name::Ask, 0) => "again",
+        (Name::FileWrite, 0) if call.bytes == u64::from(answer.place) => "exact",
+        (Name::FileWrite, 0) => "longer",
+        (Name::FileLayout | Name::FileRead, 10) if call.bytes < file::HEADER as u64 => "short",
+        (Name::FileLayout | Name::FileRead, 10) => "field",
+        (Name::FileRead, 4) if file::refuse(&before.file, call.bytes) == 4 => "body",
+        (Name::FileRead, 4) => "image",
         _ => "",
     };
     format!("{} {} {detail}", call.name.text(), answer.number).trim_end().to_string()
@@ -53,18 +61,20 @@ pub fn kind(call: &Call, answer: &Answer, before: &Lent) -> String {
 
 /// Every kind of answer that there is.
 pub fn kinds() -> Vec<String> {
-    let mut kinds = Vec::new();
-    let ladders: [(&str, &[u32], &[&str]); 6] = [
-        ("format", &[1, 2, 3, 4], &[""]),
-        ("write", &[1, 2, 3, 4, 6, 7], &[""]),
-        ("read", &[1, 2, 3, 4, 6, 7], &["clean", "mended", "lost"]),
-        ("visit", &[1, 2, 3, 4, 6], &["clean", "mended", "lost"]),
-        ("ask", &[1, 2, 3, 5, 6, 8], &["new", "again", "again-full"]),
-        ("turn", &[1, 2, 3, 4, 5], &["alone", "asked", "twice"]),
+    let ladders: [(&str, &[&str]); 9] = [
+        ("format", &["0", "1", "2", "3", "4"]),
+        ("write", &["0", "1", "2", "3", "4", "6", "7"]),
+        ("read", &["0 clean", "0 mended", "0 lost", "1", "2", "3", "4", "6", "7"]),
+        ("visit", &["0 clean", "0 mended", "0 lost", "1", "2", "3", "4", "6"]),
+        ("ask", &["0 new", "0 again", "0 again-full", "1", "2", "3", "5", "6", "8"]),
+        ("turn", &["0 alone", "0 asked", "0 twice", "1", "2", "3", "4", "5"]),
+        ("file_write", &["0 exact", "0 longer", "1", "2", "3", "4", "11", "12"]),
+        ("file_layout", &["0", "11", "10 short", "9", "10 field", "1", "2", "3", "4"]),
+        ("file_read", &["0", "11", "10 short", "9", "10 field", "1", "2", "3", "4 body", "4 image"]),
     ];
-    for (name, refusals, accepted) in ladders {
-        accepted.iter().for_each(|kind| kinds.push(format!("{name} 0 {kind}").trim_end().to_string()));
-        refusals.iter().for_each(|number| kinds.push(format!("{name} {number}")));
+    let mut kinds = Vec::new();
+    for (name, answers) in ladders {
+        answers.iter().for_each(|answer| kinds.push(format!("{name} {answer}")));
     }
     kinds
 }
@@ -88,22 +98,38 @@ pub fn write(seed: u64, calls: u64, dir: &str) -> io::Result<()> {
     stream.expected.flush()
 }
 
+/// Now and then, before a call: flips in the image, another record, bytes of the file overwritten, another file.
+fn unsettle(r: &mut Random, stream: &mut Stream, at: Layout, lent: &mut Lent) -> io::Result<()> {
+    if r.chance(25) {
+        let b = r.below(u64::from(at.blocks())) as u32;
+        let flips = generate::harm(r, at, b);
+        flips.iter().for_each(|(index, bit)| lent.image[*index] ^= 1 << bit);
+        stream.set(&text::flip_line(&flips))?;
+    }
+    if r.chance(15) {
+        lent.record = generate::any_record(r, at);
+        stream.set(&text::record_line(&lent.record))?;
+    }
+    if r.chance(8) {
+        let spoilt = room::spoil(r, at, &lent.file);
+        spoilt.iter().for_each(|(index, byte)| lent.file[*index] = *byte);
+        stream.set(&text::spoil_line(&spoilt))?;
+    }
+    if r.chance(2) {
+        lent.file = room::any_room(r, at);
+        stream.set(&text::file_line(&lent.file))?;
+    }
+    Ok(())
+}
+
 fn scene(r: &mut Random, stream: &mut Stream, length: u64) -> io::Result<()> {
     let at = generate::any_layout(r);
-    let mut lent = Lent { image: generate::any_image(r, at), record: generate::any_record(r, at) };
+    let mut lent = Lent { image: generate::any_image(r, at), record: generate::any_record(r, at), file: room::any_room(r, at) };
     stream.set(&text::image_line(&lent.image))?;
     stream.set(&text::record_line(&lent.record))?;
+    stream.set(&text::file_line(&lent.file))?;
     for _ in 0..length {
-        if r.chance(25) {
-            let b = r.below(u64::from(at.blocks())) as u32;
-            let flips = generate::harm(r, at, b);
-            flips.iter().for_each(|(index, bit)| lent.image[*index] ^= 1 << bit);
-            stream.set(&text::flip_line(&flips))?;
-        }
-        if r.chance(15) {
-            lent.record = generate::any_record(r, at);
-            stream.set(&text::record_line(&lent.record))?;
-        }
+        unsettle(r, stream, at, &mut lent)?;
         let call = generate::any_call(r, at, &lent);
         stream.call(call, &mut lent)?;
     }

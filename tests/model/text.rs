@@ -4,6 +4,7 @@
 use crate::call::{Answer, Call, Lent, Name};
 use crate::generate::Flip;
 use crate::patrol::Record;
+use crate::room::Spoilt;
 
 /// More changed words than these are told by their count and a hash of the image.
 const MOST_CHANGES: usize = 144;
@@ -52,6 +53,24 @@ pub fn flip_line(flips: &[Flip]) -> String {
     line
 }
 
+/// The room for a file; bytes that are not given are zero.
+pub fn file_line(file: &[u8]) -> String {
+    let used = file.iter().rposition(|byte| *byte != 0).map_or(0, |at| at + 1);
+    let mut line = String::from("file");
+    put(&mut line, file.len() as u64);
+    file[..used].iter().for_each(|byte| put(&mut line, u64::from(*byte)));
+    line
+}
+
+pub fn spoil_line(spoilt: &[Spoilt]) -> String {
+    let mut line = String::from("spoil");
+    for (index, byte) in spoilt {
+        put(&mut line, *index as u64);
+        put(&mut line, u64::from(*byte));
+    }
+    line
+}
+
 pub fn call_line(call: &Call) -> String {
     let mut line = String::from(call.name.text());
     if call.name.takes_image() {
@@ -60,7 +79,7 @@ pub fn call_line(call: &Call) -> String {
     if call.name.takes_layout() {
         put_words(&mut line, &[call.shape, call.s, call.g]);
     }
-    if !matches!(call.name, Name::Format | Name::Turn) {
+    if call.name.takes_block() {
         put(&mut line, u64::from(call.block));
     }
     match call.name {
@@ -71,12 +90,21 @@ pub fn call_line(call: &Call) -> String {
         Name::Read => put_words(&mut line, &[call.list.len() as u32, call.list.first().copied().unwrap_or(0)]),
         _ => {}
     }
+    if call.name.takes_file() {
+        put(&mut line, call.bytes);
+    }
     line
 }
 
-/// FNV-1a in 64 bits, a word at a step.
-fn hash(words: &[u32]) -> u64 {
-    words.iter().fold(0xcbf2_9ce4_8422_2325, |h, word| (h ^ u64::from(*word)).wrapping_mul(0x0000_0100_0000_01b3))
+/// FNV-1a in 64 bits, a word or a byte at a step.
+fn hash<T: Copy + Into<u64>>(steps: &[T]) -> u64 {
+    steps.iter().fold(0xcbf2_9ce4_8422_2325, |h, step| (h ^ (*step).into()).wrapping_mul(0x0000_0100_0000_01b3))
+}
+
+/// The room is long, so what a call leaves in it is told by the count of its changed bytes and a hash of all.
+fn put_room(line: &mut String, before: &[u8], after: &[u8]) {
+    put(line, before.iter().zip(after).filter(|(was, is)| was != is).count() as u64);
+    put(line, hash(after));
 }
 
 fn put_changes(line: &mut String, before: &[u32], after: &[u32]) {
@@ -95,7 +123,7 @@ fn put_changes(line: &mut String, before: &[u32], after: &[u32]) {
 }
 
 /// What a call answers and leaves; `call` has the list as the call leaves it.
-pub fn answer_line(call: &Call, answer: &Answer, before: &[u32], lent: &Lent) -> String {
+pub fn answer_line(call: &Call, answer: &Answer, before: &Lent, lent: &Lent) -> String {
     let mut line = String::from(call.name.text());
     put(&mut line, u64::from(answer.number));
     match call.name {
@@ -106,11 +134,16 @@ pub fn answer_line(call: &Call, answer: &Answer, before: &[u32], lent: &Lent) ->
         Name::Visit => put_words(&mut line, &answer.report[1..3]),
         Name::Ask => put(&mut line, u64::from(answer.place)),
         Name::Turn => put_words(&mut line, &answer.report),
+        Name::FileWrite => {
+            put(&mut line, u64::from(answer.place));
+            put_room(&mut line, &before.file, &lent.file);
+        }
+        Name::FileLayout | Name::FileRead => put_words(&mut line, &answer.report[..3]),
         Name::Format | Name::Write => {}
     }
     if call.name.takes_record() {
         put_words(&mut line, &lent.record);
     }
-    put_changes(&mut line, before, &lent.image);
+    put_changes(&mut line, &before.image, &lent.image);
     line
 }

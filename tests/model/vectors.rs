@@ -5,10 +5,13 @@ use std::io::{self, BufWriter, Write};
 use crate::call::{self, Call, Lent, Name};
 use crate::generate::{self, Layout};
 use crate::random::Random;
+use crate::room;
 
-/// No vector lends a longer image or list.
+/// No vector lends a longer image or list, and no vector of a file a longer image or more bytes.
 const MOST_IMAGE: u64 = 145;
 const MOST_LIST: usize = 65;
+const MOST_FILE_IMAGE: u64 = 64;
+const MOST_BYTES: u64 = 300;
 
 /// The image as it is lent: cut off, or longer by words that the call must not touch.
 fn lent_image(image: &[u32], words: u64) -> Vec<u32> {
@@ -17,33 +20,48 @@ fn lent_image(image: &[u32], words: u64) -> Vec<u32> {
     lent
 }
 
+fn fits(call: &Call) -> bool {
+    let most = if call.name.takes_file() { MOST_FILE_IMAGE } else { MOST_IMAGE };
+    (!call.name.takes_image() || call.words <= most) && call.list.len() <= MOST_LIST && call.bytes <= MOST_BYTES
+}
+
+/// The data, the buffer, or the bytes of the file, one a word.
+fn lent_list(call: &Call, lent: &Lent) -> Vec<u32> {
+    if call.name.takes_file() {
+        return lent.file[..call.bytes as usize].iter().map(|byte| u32::from(*byte)).collect();
+    }
+    call.list.clone()
+}
+
 /// One vector, or none where the call lends more than a vector holds.
 fn vector(mut call: Call, lent: &mut Lent) -> Option<Vec<u32>> {
-    if (call.name.takes_image() && call.words > MOST_IMAGE) || call.list.len() > MOST_LIST {
+    if !fits(&call) {
         return None;
     }
     let words = if call.name.takes_image() { call.words } else { 0 };
     let layout = if call.name.takes_layout() { [call.shape, call.s, call.g] } else { [0; 3] };
+    let block = if call.name.takes_file() { 0 } else { call.block };
     let record_words = if call.name.takes_record() { 21 } else { 0 };
+    let list = lent_list(&call, lent);
     let mut v = vec![0, call.name as u32 + 1];
     v.extend(layout);
-    v.extend([call.block, words as u32, call.list.len() as u32, record_words as u32]);
+    v.extend([block, words as u32, list.len() as u32, record_words as u32]);
     v.extend(lent_image(&lent.image, words));
-    v.extend(&call.list);
+    v.extend(list);
     v.extend(&lent.record[..record_words]);
     let answer = call::run(&mut call, lent);
     v.push(answer.number);
     v.extend(answer.report);
     v.push(answer.place);
     v.extend(lent_image(&lent.image, words));
-    v.extend(&call.list);
+    v.extend(lent_list(&call, lent));
     v.extend(&lent.record[..record_words]);
     v[0] = v.len() as u32 - 1;
     Some(v)
 }
 
 fn scene(r: &mut Random, at: Layout, vectors: &mut Vec<Vec<u32>>) {
-    let mut lent = Lent { image: generate::any_image(r, at), record: generate::any_record(r, at) };
+    let mut lent = Lent { image: generate::any_image(r, at), record: generate::any_record(r, at), file: room::any_room(r, at) };
     for _ in 0..12 {
         if r.chance(35) {
             let b = r.below(u64::from(at.blocks())) as u32;
@@ -51,6 +69,9 @@ fn scene(r: &mut Random, at: Layout, vectors: &mut Vec<Vec<u32>>) {
         }
         if r.chance(25) {
             lent.record = generate::any_record(r, at);
+        }
+        if r.chance(15) {
+            room::spoil(r, at, &lent.file).iter().for_each(|(index, byte)| lent.file[*index] = *byte);
         }
         let call = generate::any_call(r, at, &lent);
         vectors.extend(vector(call, &mut lent));
@@ -60,7 +81,7 @@ fn scene(r: &mut Random, at: Layout, vectors: &mut Vec<Vec<u32>>) {
 /// Asks lend no image, so their records may be of any layout, with full lists.
 fn ask_scene(r: &mut Random, vectors: &mut Vec<Vec<u32>>) {
     let at = generate::any_layout(r);
-    let mut lent = Lent { image: Vec::new(), record: generate::any_record(r, at) };
+    let mut lent = Lent { image: Vec::new(), record: generate::any_record(r, at), file: Vec::new() };
     for _ in 0..12 {
         let call = generate::any_call(r, at, &lent);
         if call.name == Name::Ask {
