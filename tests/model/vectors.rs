@@ -3,6 +3,7 @@
 use std::io::{self, BufWriter, Write};
 
 use crate::call::{self, Call, Lent, Name};
+use crate::file;
 use crate::generate::{self, Layout};
 use crate::random::Random;
 use crate::room;
@@ -90,6 +91,23 @@ fn ask_scene(r: &mut Random, vectors: &mut Vec<Vec<u32>>) {
     }
 }
 
+/// Calls on a file that is whole, or spoilt in a way or two.
+fn file_scene(r: &mut Random, at: Layout, vectors: &mut Vec<Vec<u32>>) {
+    for _ in 0..6 {
+        let image = generate::any_image(r, at);
+        let mut file = file::file_of(at.shape, at.s, at.g, &image);
+        file.resize(file.len() + r.pick(&[0, 0, 1, 3, 30]), r.word() as u8);
+        if r.chance(65) {
+            room::spoil(r, at, &file).iter().for_each(|(index, byte)| file[*index] = *byte);
+        }
+        let mut lent = Lent { image: generate::any_image(r, at), record: generate::any_record(r, at), file };
+        let call = generate::any_call(r, at, &lent);
+        if call.name.takes_file() {
+            vectors.extend(vector(call, &mut lent));
+        }
+    }
+}
+
 /// So many vectors from a seed, to standard output, and a word 0 at their end.
 pub fn write(seed: u64, count: usize) -> io::Result<()> {
     let mut r = Random::new(seed);
@@ -97,6 +115,7 @@ pub fn write(seed: u64, count: usize) -> io::Result<()> {
     while vectors.len() < count {
         let at = generate::tiny_layout(&mut r);
         scene(&mut r, at, &mut vectors);
+        file_scene(&mut r, at, &mut vectors);
         ask_scene(&mut r, &mut vectors);
     }
     let mut out = BufWriter::new(io::stdout().lock());
