@@ -1,8 +1,9 @@
 /* A store in use, under a steady rain of flips: any lane of any block, but at least N turns between two flips of one lane of
    one block. Every read must give what was last written (zeros where nothing was); every visit must count the flips that
-   came since the last one; every ask must be served in its turn. Only the library's answers are used.
+   came since the last one; every ask must be served in its turn. Now and then the image goes through a file and back, and
+   the store lives on. Only the library's answers are used.
 
-   soak SEED TURNS   so many turns on each of twenty stores; exits 1 at the first wrong answer. */
+   soak SEED TURNS   so many turns on each of twenty-two stores; exits 1 at the first wrong answer. */
 #include <stdio.h>
 #include <stdlib.h>
 #include <string.h>
@@ -20,7 +21,9 @@ static uint32_t meant[MOST_BLOCKS][MOST_DATA];                /* what was last w
 static uint32_t flipped[MOST_BLOCKS];                         /* lanes flipped since the block was last visited or written */
 static uint64_t last_flip[MOST_BLOCKS][LANES];                /* the turn before which a lane was last flipped, from 1; 0 never */
 static uint32_t waiting[FOLDGREBE_PLACES], waits;             /* the asks, as their places told */
-static uint64_t turns, next, flips, reads, writes, asks;
+static uint8_t file_room[FOLDGREBE_FILE_BYTES + 2 * GUARDS];
+static uint32_t kept[MOST_BLOCKS * MOST_ROWS];                /* the image while it is in a file alone */
+static uint64_t turns, next, flips, reads, writes, asks, files;
 static uint64_t random_state;
 static uint64_t seed;
 
@@ -122,6 +125,41 @@ static void turn_one(void)
     memmove(waiting, waiting + 1, --waits * sizeof *waiting);
 }
 
+/* The bytes of the room that are not lent must stay; those behind a file, where the buffer is longer, too. */
+static void expect_room(const uint8_t *file, size_t length)
+{
+    for (const uint8_t *byte = file_room; byte < file_room + sizeof file_room; byte++)
+        if (byte < file || byte >= file + length) expect(*byte == (uint8_t)GUARD, "byte outside the file altered", 0);
+}
+
+/* The file must say the store's layout, and give back its words to an image that holds other ones. */
+static void read_back(const uint8_t *file, size_t length)
+{
+    uint32_t told[2][FOLDGREBE_LAYOUT_WORDS] = { { 0 }, { 0 } };
+    const uint32_t layout[FOLDGREBE_LAYOUT_WORDS] = { shape, s, g };
+    memcpy(kept, image, words * sizeof *image);
+    for (size_t i = 0; i < words; i++) image[i] = (uint32_t)random_number();
+    expect(foldgrebe_file_layout(file, length, told[0]) == 0, "file_layout refused", 0);
+    expect(foldgrebe_file_read(file, length, image, words, told[1]) == 0, "file_read refused", 0);
+    expect(memcmp(told[0], layout, sizeof layout) == 0 && memcmp(told[1], layout, sizeof layout) == 0, "file has another layout", 0);
+    expect(memcmp(kept, image, words * sizeof *image) == 0, "file_read is not what was written", 0);
+}
+
+/* The image goes into a file, at any byte of the room, and comes back; one that is too large is refused. */
+static void file_one(void)
+{
+    uint8_t *file = file_room + GUARDS - below(16);
+    size_t length = 9 + 4 * words, lent = length + below(3) * 32;
+    uint32_t written = 1;
+    memset(file_room, (uint8_t)GUARD, sizeof file_room);
+    uint32_t number = foldgrebe_file_write(image, words, shape, s, g, file, lent > FOLDGREBE_FILE_BYTES ? FOLDGREBE_FILE_BYTES : lent, &written);
+    files++;
+    if (length > FOLDGREBE_FILE_BYTES) { expect(number == 11 && written == 0, "file that is too long not refused", 0); length = 0; }
+    else expect(number == 0 && written == length, "file_write refused, or of a wrong length", 0);
+    expect_room(file, length);
+    if (length) read_back(file, length);
+}
+
 static void fresh_store(void)
 {
     n = s * g, rows = shape == 1 ? 16 : 72, data_words = shape == 1 ? 11 : 64, words = (size_t)rows * n;
@@ -143,6 +181,7 @@ static void use_store(uint64_t upto)
         case 3: case 4: ask_one(); break;
         default: turn_one();
         }
+        if (below(32) == 0) file_one();
         if (turns % 512 == 0) drops = heaviness[below(4)];
     }
     for (size_t i = 0; i < GUARDS; i++) expect(room[i] == GUARD && image[words + i] == GUARD, "guard word altered", 0);
@@ -152,6 +191,7 @@ int main(int argc, char **argv)
 {
     static const uint32_t layouts[][2] = {   /* s, G */
         { 1, 1 }, { 1, 2 }, { 1, 17 }, { 2, 3 }, { 3, 1 }, { 6, 7 }, { 16, 2 }, { 16, 20 }, { 5, 1 }, { 13, 3 },
+        { 7, 73 },
     };
     if (argc != 3) { fprintf(stderr, "usage: soak SEED TURNS\n"); return 2; }
     random_state = seed = strtoull(argv[1], NULL, 10);
@@ -160,7 +200,8 @@ int main(int argc, char **argv)
         fresh_store();
         use_store(strtoull(argv[2], NULL, 10));
     }
-    printf("soak: seed %llu, %llu flips, %llu reads, %llu writes, %llu asks as they should be\n", (unsigned long long)seed,
-           (unsigned long long)flips, (unsigned long long)reads, (unsigned long long)writes, (unsigned long long)asks);
+    printf("soak: seed %llu, %llu flips, %llu reads, %llu writes, %llu asks, %llu files as they should be\n", (unsigned long long)seed,
+           (unsigned long long)flips, (unsigned long long)reads, (unsigned long long)writes, (unsigned long long)asks,
+           (unsigned long long)files);
     return 0;
 }
