@@ -84,6 +84,23 @@ fn sample_run() {
     assert_eq!(file::inspect(&bytes), text);
 }
 
+/// The largest files that there are, one block more, and a buffer that is just too short.
+fn file_edges() {
+    let write = |shape, s, g, short: u64| {
+        let image = vec![7; block::rows(shape) * (s * g) as usize];
+        let mut file = vec![0; 40000];
+        let bytes = (file::HEADER + 4 * image.len()) as u64 - short;
+        let written = file::write(&image, image.len() as u64, [shape, s, g], &mut file, bytes);
+        (written, file::layout(&file, u64::from(written.1)))
+    };
+    assert_eq!(write(1, 1, 511, 0), ((0, 32713), (0, [1, 1, 511])));
+    assert_eq!(write(1, 7, 73, 0), ((0, 32713), (0, [1, 7, 73])));
+    assert_eq!(write(2, 1, 113, 0), ((0, 32553), (0, [2, 1, 113])));
+    assert_eq!(write(1, 1, 512, 0), ((11, 0), (10, [0; 3])));
+    assert_eq!(write(2, 1, 114, 0), ((11, 0), (10, [0; 3])));
+    assert_eq!(write(1, 1, 1, 1), ((12, 0), (10, [0; 3])));
+}
+
 /// The search for a valid lane agrees with the five lines on random lanes and on lanes with few ones.
 fn decision(r: &mut Random) {
     for shape in [1, 2] {
@@ -124,6 +141,7 @@ pub fn run() {
     asking();
     full_list();
     sample_run();
+    file_edges();
     let mut r = Random::new(1);
     decision(&mut r);
     for _ in 0..20 {
