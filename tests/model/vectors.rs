@@ -11,7 +11,7 @@ use crate::room;
 /// No vector lends a longer image or list, and no vector of a file a longer image or more bytes.
 const MOST_IMAGE: u64 = 145;
 const MOST_LIST: usize = 65;
-const MOST_FILE_IMAGE: u64 = 64;
+const MOST_FILE_IMAGE: u64 = 72;
 const MOST_BYTES: u64 = 300;
 
 /// The image as it is lent: cut off, or longer by words that the call must not touch.
