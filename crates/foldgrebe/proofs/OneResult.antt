@@ -5,6 +5,7 @@ use mathlib.Core.Path.{_≡_}
 use Rattle.ground.proofs.Same.{same}
 use Rattle.layout.specs.declared.Layout.{Layout}
 use Rattle.foldgrebe.specs.Calls.{WriteCall, ReadCall, VisitCall, FormatCall, AskCall, TurnCall}
+use Rattle.foldgrebe.specs.FileCalls.{FileWriteCall, FileLayoutCall, FileReadCall}
 
 pub one-write-call : {image list after after' : List ℕ} {layout : Layout} {block number number' : ℕ}
     → WriteCall image layout block list number after
@@ -43,3 +44,23 @@ pub one-turn-call : {lent image words words' after after' report report' : List 
     → (number ≡ number') × (words ≡ words') × (after ≡ after') × (report ≡ report')
 one-turn-call w w' =
     (same (w .answers) (w' .answers), same (w .back) (w' .back), same (w .leaves) (w' .leaves), same (w .says) (w' .says))
+
+pub one-file-write-call : {image buffer kept kept' after after' written written' : List ℕ} {layout : Layout} {number number' : ℕ}
+    → FileWriteCall image layout buffer number kept after written
+    → FileWriteCall image layout buffer number' kept' after' written'
+    → (number ≡ number') × (kept ≡ kept') × (after ≡ after') × (written ≡ written')
+one-file-write-call w w' =
+    (same (w .answers) (w' .answers), same (w .keeps) (w' .keeps), same (w .leaves) (w' .leaves), same (w .says) (w' .says))
+
+pub one-file-layout-call : {bytes kept kept' layout layout' : List ℕ} {number number' : ℕ}
+    → FileLayoutCall bytes number kept layout
+    → FileLayoutCall bytes number' kept' layout'
+    → (number ≡ number') × (kept ≡ kept') × (layout ≡ layout')
+one-file-layout-call w w' = (same (w .answers) (w' .answers), same (w .keeps) (w' .keeps), same (w .says) (w' .says))
+
+pub one-file-read-call : {bytes image kept kept' after after' layout layout' : List ℕ} {number number' : ℕ}
+    → FileReadCall bytes image number kept after layout
+    → FileReadCall bytes image number' kept' after' layout'
+    → (number ≡ number') × (kept ≡ kept') × (after ≡ after') × (layout ≡ layout')
+one-file-read-call w w' =
+    (same (w .answers) (w' .answers), same (w .keeps) (w' .keeps), same (w .leaves) (w' .leaves), same (w .says) (w' .says))
