@@ -24,3 +24,4 @@ pub mod Tests
 pub mod Needed
 pub mod Shown
 pub mod Files
+pub mod RoundTrip

@@ -5,3 +5,4 @@ pub mod Examples
 pub mod Promised
 pub mod Demand3
 pub mod Files
+pub mod RoundTrip

@@ -13,7 +13,7 @@ use Rattle.layout.specs.declared.Layout.{Layout}
 use Rattle.layout.specs.Layout.{layoutOf}
 use Rattle.layout.specs.Refusal.{imageRefusal}
 use Rattle.file.specs.BigEndian.{pairOf, pairBytes, wordOf, wordBytes, wordAt}
-use Rattle.file.specs.Bytes.{bytesOf, headOf, fileOf, versionIn, fieldIn, layoutIn, wordCount, wordIn, wordsIn}
+use Rattle.file.specs.Bytes.{FittingBytes, bytesOf, headOf, fileOf, versionIn, fieldIn, layoutIn, wordCount, wordIn, wordsIn}
 use Rattle.file.specs.Refusal.{longRung, frameRefusal, bodyRefusal, fileRefusal}
 use Rattle.file.proofs.Ladder.{Accepted, accepted, body-words}
 
@@ -116,11 +116,7 @@ module _ (layout : Layout) (words : List ℕ) where
 
 -- ---- from a file to its image and back
 
--- every byte is below 256
-abbrev pub Bytes : List ℕ → Type 0
-Bytes bytes = (i : ℕ) → getD bytes i 0 < 256
-
-bytes-back : (n : ℕ) (bytes : List ℕ) → Bytes bytes → length bytes ≡ 4 * n → bytesOf (listOf n (λ k. wordAt bytes (4 * k))) ≡ bytes
+bytes-back : (n : ℕ) (bytes : List ℕ) → FittingBytes bytes → length bytes ≡ 4 * n → bytesOf (listOf n (λ k. wordAt bytes (4 * k))) ≡ bytes
 unfolding bytesOf listOf
 bytes-back zero [] small e = refl
 bytes-back zero (a ∷ bytes) small e = absurd (omega arith)
@@ -153,11 +149,11 @@ head-of (a ∷ b ∷ c ∷ d ∷ e ∷ f ∷ g ∷ []) l = absurd (omega arith)
 head-of (a ∷ b ∷ c ∷ d ∷ e ∷ f ∷ g ∷ h ∷ []) l = absurd (omega arith)
 head-of (a ∷ b ∷ c ∷ d ∷ e ∷ f ∷ g ∷ h ∷ i ∷ rest) l = headed a b c d e f g h i rest
 
-length-words : (bytes : List ℕ) → length (wordsIn bytes) ≡ wordCount (length bytes)
+pub length-words : (bytes : List ℕ) → length (wordsIn bytes) ≡ wordCount (length bytes)
 unfolding wordsIn
 length-words bytes = length-listOf (wordCount (length bytes)) (wordIn bytes)
 
-same-bytes : (bytes : List ℕ) → Bytes bytes → Accepted bytes → Headed bytes
+same-bytes : (bytes : List ℕ) → FittingBytes bytes → Accepted bytes → Headed bytes
     → fileOf (layoutIn bytes) (wordsIn bytes) ≡ bytes
 unfolding fileOf wordsIn
 same-bytes bytes small ok (headed a b c d e f g h i rest) =
@@ -172,6 +168,6 @@ same-bytes bytes small ok (headed a b c d e f g h i rest) =
     ∙ bytes-back count rest (λ k. small (suc (suc (suc (suc (suc (suc (suc (suc (suc k)))))))))) size)
 
 -- the file of what was read from a file that is accepted is that file
-pub file-back : (bytes : List ℕ) → Bytes bytes → fileRefusal bytes ≡ 0
+pub file-back : (bytes : List ℕ) → FittingBytes bytes → fileRefusal bytes ≡ 0
     → fileOf (layoutIn bytes) (wordsIn bytes) ≡ bytes
 file-back bytes small e = let ok = accepted bytes e in same-bytes bytes small ok (head-of bytes (ok .frame .least))

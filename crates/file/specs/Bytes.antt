@@ -1,6 +1,6 @@
 -- Byte 0 of an image file is the version, 1. Bytes 1 to 4 hold, big-endian, the number of bytes after byte 4. Then stand the shape,
 -- one byte, s, one byte, G, two bytes, big-endian, and then the words of the image, big-endian. Assumes nothing.
-use Prim.Native.Nat.{ℕ, _+_, _-_, _*_, _/_, min}
+use Prim.Native.Nat.{ℕ, _+_, _-_, _*_, _/_, _<_, min}
 use mathlib.Core.Path.{_≡_}
 use mathlib.Core.List.{List, [], _∷_, _++_}
 use lib.ListN.{length, getD, drop}
@@ -9,6 +9,10 @@ use Rattle.ground.specs.Stores.{stores}
 use Rattle.layout.specs.declared.Layout.{Layout}
 use Rattle.layout.specs.Layout.{layoutOf}
 use Rattle.file.specs.BigEndian.{pairBytes, wordBytes, pairAt, wordAt}
+
+-- every byte is below 256
+abbrev pub FittingBytes : List ℕ → Type 0
+FittingBytes bytes = (i : ℕ) → getD bytes i 0 < 256
 
 -- ---- from an image to its file
 

@@ -1,0 +1,176 @@
+-- Through a file and back: of all that the promises of the writer and the reader allow. Assumes nothing.
+use Prim.Native.Nat.{ℕ, suc, _+_, _*_, _≤_, _<_}
+use mathlib.Core.Path.{_≡_, refl, sym, ap, _∙_}
+use mathlib.Core.List.{List, [], _∷_}
+use native.Mathlib.Omega.{arith}
+use borrow.Author.Tests.{lt-ltb, le-ltb}
+use lib.ListN.{length, take, drop}
+use Rattle.shape.specs.Shape.{rows}
+use Rattle.ground.specs.Rules.{NoneOf}
+use Rattle.ground.proofs.Rules.{ruled}
+use Rattle.ground.proofs.Ladder.{then-zero}
+use Rattle.layout.specs.declared.Layout.{Layout}
+use Rattle.layout.specs.Layout.{shapeNumbered, layoutOf, rowsOf, blocks}
+use Rattle.layout.specs.Refusal.{lengthRung, layoutRefusal, imageRefusal}
+use Rattle.layout.specs.Reason.{imageRules}
+use Rattle.layout.proofs.Ladder.{image-exact, image-first}
+use Rattle.layout.proofs.Shapes.{shape-one, shape-two}
+use Rattle.file.specs.declared.Header.{Header}
+use Rattle.file.specs.declared.Header.the-variants.{Image}
+use Rattle.file.specs.declared.Written.{Written}
+use Rattle.file.specs.Bytes.{FittingBytes, fileOf, fileLength, layoutIn, wordCount, wordsIn}
+use Rattle.file.specs.Refusal.{longRung, roomRung, fileRefusal, readRefusal, writeRefusal}
+use Rattle.file.specs.Reason.{tooLong, noRoom, writeRules}
+use Rattle.file.specs.Header.{headerOf, HeaderRead, ReadsFile}
+use Rattle.file.specs.Written.{writtenNumber, writtenBytes, WritesFile}
+use Rattle.file.proofs.Ladder.{accepted, header-image}
+use Rattle.file.proofs.Layouts.{words-fill, words-layout}
+use Rattle.file.proofs.FileReads.{words-exact}
+use Rattle.file.proofs.RoundTrip.{length-file, layout-back, words-back, refusal-back, length-words, file-back}
+use Rattle.text.specs.Page.{endToEnd}
+use Rattle.report.specs.Report.{imageReport, reportOf, Inspects}
+use Rattle.report.proofs.OneResult.{one-report}
+use Rattle.demands.specs.RoundTrip.{Read, inspecting, whole, Wrote, Back, Again, Printed, Edge, Most, RoundTrip}
+use Rattle.demands.proofs.Files.{accepted-lines, written-file, file-writes}
+
+-- ---- what reading gives is what stands in the bytes
+
+-- a file that is accepted, its layout and its words
+record Stands (bytes : List ℕ) (layout : Layout) (image : List ℕ) : Type 0 where
+  passed : fileRefusal bytes ≡ 0
+  named : layout ≡ layoutIn bytes
+  words : image ≡ wordsIn bytes
+
+stands : (bytes : List ℕ) (layout : Layout) (image : List ℕ) → Read bytes layout image → Stands bytes layout image
+unfolding readRefusal
+stands bytes _ _ (inspecting header count lent image h z counted size r) =
+    let passed : fileRefusal bytes ≡ 0 = sym (h .number) ∙ z in
+    record { passed = passed; named = h .layout ∙ rw passed; words = r ∙ words-fill bytes lent (size ∙ counted) }
+stands bytes _ _ (whole header lent kept image r z) =
+    let none : readRefusal bytes (length lent) ≡ 0 = sym (r .answers .number) ∙ z in
+    record { passed = then-zero (fileRefusal bytes) _ none .0; named = r .answers .layout ∙ rw none; words = r .leaves ∙ rw none }
+
+-- ---- the file that was written
+
+record Filed (image : List ℕ) (layout : Layout) (file : List ℕ) : Type 0 where
+  file-of : file ≡ fileOf layout image
+  image-passed : imageRefusal (length image) layout ≡ 0
+  file-passed : fileRefusal (fileOf layout image) ≡ 0
+
+filed : (image : List ℕ) (layout : Layout) (file : List ℕ) → Wrote image layout file → Filed image layout file
+unfolding writeRefusal
+filed image layout file w =
+    let none = sym (w .promised .number) ∙ w .accepted in
+    let parts = then-zero (imageRefusal (length image) layout) _ none in
+    let long = then-zero (longRung (fileLength (length image))) _ (parts .1) in
+    record {
+      file-of = w .file-is ∙ written-file image layout (w .buffer) (w .promised) none .1;
+      image-passed = parts .0;
+      file-passed = refusal-back layout image ∙ rw (long .0, parts .0);
+    }
+
+pub back : (image : List ℕ) (layout : Layout) (file : List ℕ) → Wrote image layout file → Back image layout file
+unfolding readRefusal imageRefusal
+back image layout file w =
+    let f = filed image layout file w in
+    let fits : lengthRung (length image) layout ≡ 0 = then-zero (layoutRefusal layout) _ (f .image-passed) .1 in
+    rw (f .file-of)
+    (record {
+      header = λ header h. h .number ∙ f .file-passed;
+      whole = λ header lent kept after e r. r .answers .number ∙ rw (f .file-passed) (ap (lengthRung (length lent)) (layout-back layout image) ∙ rw e fits);
+      same = λ named words r.
+          let s = stands (fileOf layout image) named words r in
+          (s .named ∙ layout-back layout image, s .words ∙ words-back layout image);
+    })
+
+-- ---- the file of what was read
+
+write-passed : (bytes : List ℕ) (room : ℕ) → fileRefusal bytes ≡ 0 → length bytes ≤ room → writeRefusal (length (wordsIn bytes)) (layoutIn bytes) room ≡ 0
+unfolding writeRefusal
+write-passed bytes room e l =
+    let ok = accepted bytes e in
+    let size : fileLength (length (wordsIn bytes)) ≡ length bytes = omega (arith, length-words bytes, ok .body, ok .frame .least) in
+    let image : imageRefusal (length (wordsIn bytes)) (layoutIn bytes) ≡ 0 = rw (length-words bytes) (words-layout bytes (layoutIn bytes) (sym (header-image bytes e))) in
+    rw (image, size, le-ltb 32768 (length bytes) (ok .frame .most), le-ltb room (length bytes) l)
+
+pub again : (bytes : List ℕ) (layout : Layout) (image : List ℕ) → FittingBytes bytes → Read bytes layout image
+    → (buffer : List ℕ) (answer : Written) (kept after : List ℕ) → length bytes ≤ length buffer → WritesFile image layout buffer answer kept after
+    → Again bytes buffer answer after
+again bytes layout image fits r buffer answer kept after l w =
+    let s = stands bytes layout image r in
+    let wrote = rw (s .named, s .words) at w in
+    let none = write-passed bytes (length buffer) (s .passed) l in
+    let same = file-back bytes fits (s .passed) in
+    let file = written-file (wordsIn bytes) (layoutIn bytes) buffer wrote none in
+    let count = file .0 ∙ ap length same in
+    record {
+      accepted = wrote .number ∙ none;
+      count = count;
+      same = rw (← count) (file .1 ∙ same);
+      past = rw (← count) (file .2);
+    }
+
+-- ---- what is printed
+
+report-as : (bytes : List ℕ) (layout : Layout) (image : List ℕ) → Stands bytes layout image → reportOf bytes ≡ imageReport image layout
+report-as bytes layout image s = rw (s .named, s .words) (accepted-lines bytes (s .passed))
+
+pub printed : (image : List ℕ) (layout : Layout) (file : List ℕ) → Wrote image layout file → Printed image layout file
+printed image layout file w =
+    let f = filed image layout file w in
+    let own : reportOf file ≡ imageReport image layout = report-as file layout image (rw (f .file-of)
+    (record { passed = f .file-passed; named = sym (layout-back layout image); words = sym (words-back layout image) })) in
+    record {
+      report = λ out end left i. i .whole ∙ ap endToEnd own;
+      same = λ bytes out end left end' left' r i j.
+          let e : reportOf bytes ≡ reportOf file = report-as bytes layout image (stands bytes layout image r) ∙ sym own in
+          one-report file out
+          (record { ends = i .ends ∙ ap (λ (lines : List (List ℕ)). length (endToEnd lines)) e; whole = i .whole ∙ ap endToEnd e; past = i .past })
+          j;
+    }
+
+-- ---- the edges
+
+edge : (shape most words bytes : ℕ)
+    → writeRefusal words (layoutOf shape 1 most) bytes ≡ 0
+    → fileLength words ≡ bytes
+    → ((room : ℕ) → room < bytes → writeRefusal words (layoutOf shape 1 most) room ≡ 12)
+    → ((room : ℕ) → writeRefusal (words + rowsOf (layoutOf shape 1 most)) (layoutOf shape 1 (suc most)) room ≡ 11)
+    → Edge shape most words bytes
+edge shape most words bytes none size twelve eleven =
+    record {
+      exactly = λ image buffer answer kept after e l w.
+          let passed : writeRefusal (length image) (layoutOf shape 1 most) (length buffer) ≡ 0 = rw (e, l) none in
+          (w .number ∙ passed, written-file image (layoutOf shape 1 most) buffer w passed .0 ∙ length-file (layoutOf shape 1 most) image ∙ rw e size);
+      shorter = λ image buffer answer kept after e l w. w .number ∙ rw e (twelve (length buffer) l);
+      larger = λ image buffer answer kept after e w. w .number ∙ rw e (eleven (length buffer));
+    }
+
+-- a length refused for the file's own is refused by 11 exactly
+most-by : (shape rows most : ℕ) → ((layout : Layout) → layout .shape ≡ shape → rowsOf layout ≡ rows)
+    → ((n : ℕ) → 32768 < 9 + 4 * (rows * n) → most < n)
+    → ((n : ℕ) → most < n → 32768 < 9 + 4 * (rows * n))
+    → Most shape most
+most-by shape rows most tall above below image layout buffer answer kept after e none w =
+    let d = file-writes image layout buffer answer kept after w .ruled .exactly (imageRules (length image) layout) (noRoom (fileOf layout image) buffer ∷ [])
+    (tooLong (fileOf layout image))
+    refl in
+    let exact = image-exact layout (length image) (ruled (imageRules (length image) layout) _ tt (image-first layout (length image)) .accepted .1 none) in
+    let size : length (fileOf layout image) ≡ 9 + 4 * (rows * blocks layout) =
+        length-file layout image ∙ ap (λ (n : ℕ). 9 + 4 * n) (exact ∙ ap (λ (k : ℕ). k * blocks layout) (tall layout e)) in (
+      λ n. above (blocks layout) (rw (← size) (d .0 n .1)),
+      λ l. d .1 (none, rw size (below (blocks layout) l)),
+    )
+
+pub round-trip : RoundTrip
+unfolding writeRefusal imageRefusal layoutRefusal shapeNumbered
+round-trip =
+    record {
+      back = back;
+      again = again;
+      printed = printed;
+      largest-one = edge 1 511 8176 32713 refl refl (λ room l. rw (lt-ltb room 32713 l)) (λ room. refl);
+      largest-two = edge 2 113 8136 32553 refl refl (λ room l. rw (lt-ltb room 32553 l)) (λ room. refl);
+      most-one = most-by 1 16 511 (λ layout e. ap rows (shape-one (layout .shape) e)) (λ n l. omega arith) (λ n l. omega arith);
+      most-two = most-by 2 72 113 (λ layout e. ap rows (shape-two (layout .shape) (λ q. omega arith))) (λ n l. omega arith) (λ n l. omega arith);
+    }

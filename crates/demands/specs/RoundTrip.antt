@@ -1,0 +1,99 @@
+-- Through a file and back. What is read of the file that was written of an image is that image; the file that is written of what was read is
+-- that file, byte for byte; so the inspecting program prints the same of both. All of it is said of what the promises allow. Assumes nothing.
+use Prim.Native.Nat.{ℕ, suc, _+_, _≤_, _<_}
+use mathlib.Core.Path.{_≡_}
+use mathlib.Core.List.{List}
+use mathlib.Core.Logic.{_↔_}
+use lib.ListN.{length, take, drop}
+use Rattle.ground.specs.Rules.{NoneOf}
+use Rattle.layout.specs.declared.Layout.{Layout}
+use Rattle.layout.specs.Layout.{layoutOf, rowsOf, blocks}
+use Rattle.layout.specs.Reason.{imageRules}
+use Rattle.file.specs.declared.Header.{Header}
+use Rattle.file.specs.declared.Written.{Written}
+use Rattle.file.specs.Bytes.{FittingBytes, CountsFileWords, ReadsWords}
+use Rattle.file.specs.Header.{headerNumber, headerLayout, HeaderRead, ReadsFile}
+use Rattle.file.specs.Written.{writtenNumber, writtenBytes, WritesFile}
+use Rattle.text.specs.Page.{endToEnd}
+use Rattle.report.specs.Report.{imageReport, Inspects}
+
+-- what reading a file may give, where it is accepted: a layout and an image
+pub data Read (bytes : List ℕ) : Layout → List ℕ → Type 0 where
+  -- as the inspecting program does it: the header, and then as many words as are counted
+  inspecting : (header : Header) (count : ℕ) (lent image : List ℕ)
+      → HeaderRead bytes header
+      → headerNumber header ≡ 0
+      → CountsFileWords (length bytes) count
+      → length lent ≡ count
+      → ReadsWords bytes lent image
+      → Read bytes (headerLayout header) image
+  -- by one call
+  whole : (header : Header) (lent kept image : List ℕ) → ReadsFile bytes lent header kept image → headerNumber header ≡ 0
+      → Read bytes (headerLayout header) image
+
+-- the writer wrote this file of an image, and may have been lent more bytes
+pub record Wrote (image : List ℕ) (layout : Layout) (file : List ℕ) : Type 0 where
+  pub buffer : List ℕ
+  pub answer : Written
+  pub kept : List ℕ
+  pub after : List ℕ
+  pub promised : WritesFile image layout buffer answer kept after
+  pub accepted : writtenNumber answer ≡ 0
+  pub file-is : file ≡ take (writtenBytes answer) after
+
+-- from an image to its file and back: reading is accepted, and gives that shape, s and G, and the same image, word for word
+pub record Back (image : List ℕ) (layout : Layout) (file : List ℕ) : Type 0 where
+  pub header : (header : Header) → HeaderRead file header → headerNumber header ≡ 0
+  pub whole : (header : Header) (lent kept after : List ℕ) → length lent ≡ length image → ReadsFile file lent header kept after → headerNumber header ≡ 0
+  pub same : (named : Layout) (words : List ℕ) → Read file named words → (named ≡ layout) × (words ≡ image)
+
+-- from a file to its image and back: writing is accepted where there is room, and gives the same bytes, all of them
+pub record Again (bytes buffer : List ℕ) (answer : Written) (after : List ℕ) : Type 0 where
+  pub accepted : writtenNumber answer ≡ 0
+  pub count : writtenBytes answer ≡ length bytes
+  pub same : take (length bytes) after ≡ bytes
+  pub past : drop (length bytes) after ≡ drop (length bytes) buffer
+
+-- the inspecting program prints of the file that was written the report of the image, and so what it prints of any file with those words
+pub record Printed (image : List ℕ) (layout : Layout) (file : List ℕ) : Type 0 where
+  pub report : (out : List ℕ) (end : ℕ) (left : List ℕ) → Inspects file out end left → take end left ≡ endToEnd (imageReport image layout)
+  pub same : (bytes out : List ℕ) (end : ℕ) (left : List ℕ) (end' : ℕ) (left' : List ℕ) → Read bytes layout image
+      → Inspects bytes out end left
+      → Inspects file out end' left'
+      → (end ≡ end') × (left ≡ left')
+
+-- ---- the edges
+
+-- the largest file of a shape without interleave: a buffer of exactly its length will do, one byte less or
+-- fewer is refused, and so is one block more
+pub record Edge (shape most words bytes : ℕ) : Type 0 where
+  pub exactly : (image buffer : List ℕ) (answer : Written) (kept after : List ℕ) → length image ≡ words → length buffer ≡ bytes
+      → WritesFile image (layoutOf shape 1 most) buffer answer kept after
+      → (writtenNumber answer ≡ 0) × (writtenBytes answer ≡ bytes)
+  pub shorter : (image buffer : List ℕ) (answer : Written) (kept after : List ℕ) → length image ≡ words → length buffer < bytes
+      → WritesFile image (layoutOf shape 1 most) buffer answer kept after
+      → writtenNumber answer ≡ 12
+  pub larger : (image buffer : List ℕ) (answer : Written) (kept after : List ℕ) → length image ≡ words + rowsOf (layoutOf shape 1 most)
+      → WritesFile image (layoutOf shape 1 (suc most)) buffer answer kept after
+      → writtenNumber answer ≡ 11
+
+-- so many blocks of a shape go into a file, whatever s: above them, and only then, it is refused for its length
+abbrev pub Most : ℕ → ℕ → Type 0
+Most shape most =
+    (image : List ℕ) (layout : Layout) (buffer : List ℕ) (answer : Written) (kept after : List ℕ) → layout .shape ≡ shape
+    → NoneOf (imageRules (length image) layout)
+    → WritesFile image layout buffer answer kept after
+    → (writtenNumber answer ≡ 11) ↔ (most < blocks layout)
+
+-- ---- all together
+
+pub record RoundTrip : Type 0 where
+  pub back : (image : List ℕ) (layout : Layout) (file : List ℕ) → Wrote image layout file → Back image layout file
+  pub again : (bytes : List ℕ) (layout : Layout) (image : List ℕ) → FittingBytes bytes → Read bytes layout image
+      → (buffer : List ℕ) (answer : Written) (kept after : List ℕ) → length bytes ≤ length buffer → WritesFile image layout buffer answer kept after
+      → Again bytes buffer answer after
+  pub printed : (image : List ℕ) (layout : Layout) (file : List ℕ) → Wrote image layout file → Printed image layout file
+  pub largest-one : Edge 1 511 8176 32713
+  pub largest-two : Edge 2 113 8136 32553
+  pub most-one : Most 1 511
+  pub most-two : Most 2 113
