@@ -2,3 +2,4 @@ pub mod Answers
 pub mod Followed
 pub mod Running
 pub mod Demands
+pub mod Files

@@ -76,7 +76,7 @@ back image layout file w =
     let fits : lengthRung (length image) layout ≡ 0 = then-zero (layoutRefusal layout) _ (f .image-passed) .1 in
     rw (f .file-of)
     (record {
-      header = λ header h. h .number ∙ f .file-passed;
+      header = λ header h. (h .number ∙ f .file-passed, h .layout ∙ rw (f .file-passed) (layout-back layout image));
       whole = λ header lent kept after e r. r .answers .number ∙ rw (f .file-passed) (ap (lengthRung (length lent)) (layout-back layout image) ∙ rw e fits);
       same = λ named words r.
           let s = stands (fileOf layout image) named words r in
@@ -157,7 +157,7 @@ most-by shape rows most tall above below image layout buffer answer kept after e
     refl in
     let exact = image-exact layout (length image) (ruled (imageRules (length image) layout) _ tt (image-first layout (length image)) .accepted .1 none) in
     let size : length (fileOf layout image) ≡ 9 + 4 * (rows * blocks layout) =
-        length-file layout image ∙ ap (λ (n : ℕ). 9 + 4 * n) (exact ∙ ap (λ (k : ℕ). k * blocks layout) (tall layout e)) in (
+    length-file layout image ∙ ap (λ (n : ℕ). 9 + 4 * n) (exact ∙ ap (λ (k : ℕ). k * blocks layout) (tall layout e)) in (
       λ n. above (blocks layout) (rw (← size) (d .0 n .1)),
       λ l. d .1 (none, rw size (below (blocks layout) l)),
     )

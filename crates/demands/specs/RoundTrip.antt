@@ -43,7 +43,7 @@ pub record Wrote (image : List ℕ) (layout : Layout) (file : List ℕ) : Type 0
 
 -- from an image to its file and back: reading is accepted, and gives that shape, s and G, and the same image, word for word
 pub record Back (image : List ℕ) (layout : Layout) (file : List ℕ) : Type 0 where
-  pub header : (header : Header) → HeaderRead file header → headerNumber header ≡ 0
+  pub header : (header : Header) → HeaderRead file header → (headerNumber header ≡ 0) × (headerLayout header ≡ layout)
   pub whole : (header : Header) (lent kept after : List ℕ) → length lent ≡ length image → ReadsFile file lent header kept after → headerNumber header ≡ 0
   pub same : (named : Layout) (words : List ℕ) → Read file named words → (named ≡ layout) × (words ≡ image)
 
