@@ -6,11 +6,8 @@
 #include "foldgrebe.h"
 #include "mark.h"
 
-/* The most blocks that a file takes are 511 of shape 1 or 113 of shape 2. */
-enum { GROUPS = 3, MOST_WORDS = FOLDGREBE_FILE_BYTES / 4, MOST_DATA = 64, FILE_BLOCKS_1 = 511, FILE_BLOCKS_2 = 113 };
+enum { GROUPS = 3, MOST_WORDS = 72 * 16 * GROUPS, MOST_DATA = 64 };
 
-static uint8_t file[FOLDGREBE_FILE_BYTES];
-static uint32_t taken[MOST_WORDS], layout[FOLDGREBE_LAYOUT_WORDS], written[1];
 static uint32_t image[MOST_WORDS], data[MOST_DATA], buffer[MOST_DATA], record[FOLDGREBE_RECORD_WORDS];
 static uint32_t verdict[FOLDGREBE_VERDICT_WORDS], report[FOLDGREBE_REPORT_WORDS], place[1];
 static uint32_t shape, s, block, rows, data_words;
@@ -110,29 +107,6 @@ static void measure_store(uint32_t in_shape, uint32_t interleave)
     measure_turns();
 }
 
-/* One whole call for an image of so many blocks, and one for the file that it made. */
-static void measure_file(uint32_t blocks, const char *write, const char *read)
-{
-    uint32_t number;
-    words = (size_t)rows * blocks;
-    for (size_t i = 0; i < words; i++) image[i] = (uint32_t)(i + 1) * 0x9e3779b1u, taken[i] = 0;
-    COUNTED(next_case(write), number = foldgrebe_file_write(image, words, shape, s, blocks, file, sizeof file, written));
-    expect(number == 0 && written[0] == 9 + 4 * words && file[9] == image[0] >> 24 && file[written[0] - 1] == (image[words - 1] & 255), write);
-    COUNTED(next_case(read), number = foldgrebe_file_read(file, written[0], taken, words, layout));
-    expect(number == 0 && layout[FOLDGREBE_LAYOUT_SHAPE] == shape && layout[FOLDGREBE_LAYOUT_GROUPS] == blocks, read);
-    expect(memcmp(taken, image, words * sizeof *image) == 0, read);
-}
-
-static void measure_files(void)
-{
-    s = 1;
-    for (shape = 1; shape <= 2; shape++) {
-        rows = shape == 1 ? 16 : 72;
-        measure_file(shape == 1 ? FILE_BLOCKS_1 : FILE_BLOCKS_2, "file-write", "file-read");
-        measure_file(GROUPS, "file-write-small", "file-read-small");
-    }
-}
-
 /* The floor: no code can look at a block with less than one pass over its words. */
 static __attribute__((noinline)) uint32_t xor_pass(const uint32_t *row, uint32_t count)
 {
@@ -154,7 +128,6 @@ int main(void)
     static const uint32_t interleaves[] = { 1, 6, 16 };
     COUNTED(0, (void)0);
     for (uint32_t k = 0; k < 6; k++) measure_store(k / 3 + 1, interleaves[k % 3]);
-    measure_files();
     measure_floor();
     return 0;
 }
