@@ -1,11 +1,13 @@
 // What a call answers as words: its number, a report and a place.
 use crate::lists::scatter;
+use file::Header;
+use file::Written;
 use patrol::Report;
 use rota::Place;
 use store::Answer;
 use words::REPORT_WORDS;
 
-// The number stands first, then the report.
+// The number stands first, then the report, or the layout of a file.
 const REPORT_AT: usize = 1;
 
 // The verdict of a call that has no report stands where a report has its first one: after a block.
@@ -45,4 +47,16 @@ pub(crate) fn of_place(place: Place) -> [u32; ANSWER_WORDS] {
 pub(crate) fn of_report(report: Report) -> [u32; ANSWER_WORDS] {
     let seen = words::report_words(report);
     numbered(words::report_number(report), REPORT_AT, &seen)
+}
+
+// What a file's header says.
+pub(crate) fn of_header(header: Header) -> [u32; ANSWER_WORDS] {
+    let named = words::header_words(header);
+    numbered(words::header_number(header), REPORT_AT, &named)
+}
+
+// What the writer of a file answers: how many bytes stand where an ask has its place.
+pub(crate) fn of_written(written: Written) -> [u32; ANSWER_WORDS] {
+    let count = words::written_words(written);
+    numbered(words::written_number(written), PLACE_AT, &count)
 }

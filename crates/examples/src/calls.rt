@@ -1,13 +1,15 @@
-// The calls, answered by words, on an image and on what is lent beside it: a list or buffer, or a record.
+// The calls, answered by words, on an image and on what is lent beside it: a list or buffer, a file, or a record.
 use crate::answers::ANSWER_WORDS;
 use crate::answers::of_answer;
 use crate::answers::of_number;
 use crate::answers::of_place;
 use crate::answers::of_report;
+use crate::filed;
 use crate::heads::ASK;
 use crate::heads::FORMAT;
 use crate::heads::Head;
 use crate::heads::READ;
+use crate::heads::TURN;
 use crate::heads::VISIT;
 use crate::heads::WRITE;
 use layout::Layout;
@@ -56,6 +58,7 @@ pub(crate) fn run(
         READ => of_answer(store::read(image, layout, block, list)),
         VISIT => of_answer(store::visit(image, layout, block)),
         ASK => ask(record, block),
-        _ => turn(record, image),
+        TURN => turn(record, image),
+        _ => filed::run(head, image, list),
     }
 }

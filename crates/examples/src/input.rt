@@ -1,12 +1,12 @@
 // Vectors from standard input: a count and then as many words, the most significant byte first.
 use crate::answers::ANSWER_WORDS;
+use crate::heads::FILE_BYTES;
+use crate::heads::FILED_WORDS;
 use crate::heads::HEAD_WORDS;
-use crate::heads::IMAGE_WORDS;
-use crate::heads::LIST_WORDS;
 use libc::STDIN_FILENO;
 
-// The longest vector: its head, what is lent, the answer, and what is left of what was lent.
-pub(crate) const VECTOR_WORDS: usize = HEAD_WORDS + ANSWER_WORDS + 2 * (IMAGE_WORDS + LIST_WORDS);
+// The longest vector, one of a file: its head, what is lent, the answer, and what is left of what was lent.
+pub(crate) const VECTOR_WORDS: usize = HEAD_WORDS + ANSWER_WORDS + 2 * (FILED_WORDS + FILE_BYTES);
 
 const VECTOR_BYTES: usize = 4 * VECTOR_WORDS;
 
@@ -17,7 +17,7 @@ pub(crate) enum Input {
     End,
 }
 
-fn wide(byte: u8) -> u32 {
+pub(crate) fn wide(byte: u8) -> u32 {
     byte as u32
 }
 

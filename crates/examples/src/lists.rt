@@ -1,4 +1,4 @@
-// Lists of words: parts of them, copies, and whether two are the same.
+// Lists of words: parts of them, copies, whether they are bytes, and whether two are the same.
 
 // The word at an index, or 0 past the end.
 pub(crate) fn word_at(words: &[u32], i: usize) -> u32 {
@@ -46,6 +46,16 @@ pub(crate) fn scatter(from: &[u32], to: &mut [u32], at: usize, s: u32) {
 // Copies as many words as both have.
 pub(crate) fn copy(from: &[u32], to: &mut [u32]) {
     scatter(from, to, 0, 1);
+}
+
+// Whether every word is a byte.
+pub(crate) fn are_bytes(words: &[u32]) -> bool {
+    for i in 0..words.len() {
+        if 255 < words[i] {
+            return false;
+        }
+    }
+    true
 }
 
 // Whether two lists have the same words.

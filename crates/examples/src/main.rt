@@ -1,6 +1,7 @@
 // Runs the specification's worked examples and stored vectors on the compiled code, and prints what came of them.
 mod answers;
 mod calls;
+mod filed;
 mod heads;
 mod input;
 mod lists;

@@ -1,10 +1,10 @@
 // Stored vectors: each call is run, and what it answers and leaves is compared.
 use crate::answers::ANSWER_WORDS;
 use crate::calls::run;
+use crate::heads::FILE_BYTES;
 use crate::heads::HEAD_WORDS;
 use crate::heads::Head;
 use crate::heads::IMAGE_WORDS;
-use crate::heads::LIST_WORDS;
 use crate::input::Input;
 use crate::input::VECTOR_WORDS;
 use crate::input::read_vector;
@@ -49,7 +49,8 @@ fn leaves(
 // Whether the call does so on copies of the words that follow the head.
 fn follows(head: Head, words: &[u32]) -> bool {
     let mut image = [0u32; IMAGE_WORDS];
-    let mut list = [0u32; LIST_WORDS];
+    // No list is longer than a file.
+    let mut list = [0u32; FILE_BYTES];
     let mut record = [0u32; RECORD_WORDS];
     // A list and a record are never both lent, so either starts here.
     let beside = after(words, head.image);
@@ -69,8 +70,9 @@ fn follows(head: Head, words: &[u32]) -> bool {
 fn agrees(words: &[u32; VECTOR_WORDS], count: u32) -> bool {
     let vector = first(words, count as usize);
     let head = Head::of(vector);
-    if head.fits() {
-        return follows(head, after(vector, HEAD_WORDS));
+    let rest = after(vector, HEAD_WORDS);
+    if head.fits(rest) {
+        return follows(head, rest);
     }
     false
 }
