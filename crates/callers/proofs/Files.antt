@@ -3,13 +3,8 @@ use Prim.Native.Nat.{ℕ, _≤_}
 use mathlib.Core.Path.{_≡_, refl, sym, ap, _∙_}
 use mathlib.Core.List.{List, [], _∷_}
 use lib.ListN.{length, getD, take, drop}
-use Rattle.ground.proofs.Choices.{refused-kept}
 use Rattle.layout.specs.declared.Layout.{Layout}
-use Rattle.layout.specs.Layout.{layoutOf}
-use Rattle.file.specs.declared.Header.{Header}
-use Rattle.file.specs.declared.Written.{Written}
 use Rattle.file.specs.Bytes.{FittingBytes}
-use Rattle.file.specs.Refusal.{fileRefusal, readRefusal, writeRefusal}
 use Rattle.file.specs.Reason.{fileRules, readRules, writeRules}
 use Rattle.file.specs.Header.{headerNumber, headerLayout, headerOf, readHeader, HeaderRead, ReadsFile}
 use Rattle.file.specs.Written.{writtenNumber, writtenBytes, WritesFile, writeAnswer}
@@ -25,7 +20,8 @@ use Rattle.callers.specs.Files.{CallerOrdered, CallerBack, layoutTold, C
 
 -- ---- the promise of the code that a call's own promise tells
 
-module _ {image buffer : List ℕ} {layout : Layout} {number : ℕ} {kept after written : List ℕ} (c : FileWriteCall image layout buffer number kept after written) where
+module _ {image buffer : List ℕ} {layout : Layout} {number : ℕ} {kept after written : List ℕ}
+    (c : FileWriteCall image layout buffer number kept after written) where
   wrote : WritesFile image layout buffer (writeAnswer image layout buffer) kept after
   wrote =
       let w = writes-of image layout buffer in

@@ -4,9 +4,8 @@ use mathlib.Core.Path.{_≡_, refl, sym, ap, _∙_}
 use mathlib.Core.List.{List, [], _∷_}
 use native.Mathlib.Omega.{arith}
 use borrow.Author.Tests.{lt-ltb, le-ltb}
-use lib.ListN.{length, take, drop}
+use lib.ListN.{length}
 use Rattle.shape.specs.Shape.{rows}
-use Rattle.ground.specs.Rules.{NoneOf}
 use Rattle.ground.proofs.Rules.{ruled}
 use Rattle.ground.proofs.Ladder.{then-zero}
 use Rattle.layout.specs.declared.Layout.{Layout}
@@ -15,20 +14,16 @@ use Rattle.layout.specs.Refusal.{lengthRung, layoutRefusal, imageRefusal}
 use Rattle.layout.specs.Reason.{imageRules}
 use Rattle.layout.proofs.Ladder.{image-exact, image-first}
 use Rattle.layout.proofs.Shapes.{shape-one, shape-two}
-use Rattle.file.specs.declared.Header.{Header}
-use Rattle.file.specs.declared.Header.the-variants.{Image}
 use Rattle.file.specs.declared.Written.{Written}
-use Rattle.file.specs.Bytes.{FittingBytes, fileOf, fileLength, layoutIn, wordCount, wordsIn}
-use Rattle.file.specs.Refusal.{longRung, roomRung, fileRefusal, readRefusal, writeRefusal}
-use Rattle.file.specs.Reason.{tooLong, noRoom, writeRules}
-use Rattle.file.specs.Header.{headerOf, HeaderRead, ReadsFile}
-use Rattle.file.specs.Written.{writtenNumber, writtenBytes, WritesFile}
+use Rattle.file.specs.Bytes.{FittingBytes, fileOf, fileLength, layoutIn, wordsIn}
+use Rattle.file.specs.Refusal.{longRung, fileRefusal, readRefusal, writeRefusal}
+use Rattle.file.specs.Reason.{tooLong, noRoom}
+use Rattle.file.specs.Written.{WritesFile}
 use Rattle.file.proofs.Ladder.{accepted, header-image}
 use Rattle.file.proofs.Layouts.{words-fill, words-layout}
-use Rattle.file.proofs.FileReads.{words-exact}
 use Rattle.file.proofs.RoundTrip.{length-file, layout-back, words-back, refusal-back, length-words, file-back}
 use Rattle.text.specs.Page.{endToEnd}
-use Rattle.report.specs.Report.{imageReport, reportOf, Inspects}
+use Rattle.report.specs.Report.{imageReport, reportOf}
 use Rattle.report.proofs.OneResult.{one-report}
 use Rattle.demands.specs.RoundTrip.{Read, inspecting, whole, Wrote, Back, Again, Printed, Edge, Most, RoundTrip}
 use Rattle.demands.proofs.Files.{accepted-lines, written-file, file-writes}
@@ -90,7 +85,8 @@ unfolding writeRefusal
 write-passed bytes room e l =
     let ok = accepted bytes e in
     let size : fileLength (length (wordsIn bytes)) ≡ length bytes = omega (arith, length-words bytes, ok .body, ok .frame .least) in
-    let image : imageRefusal (length (wordsIn bytes)) (layoutIn bytes) ≡ 0 = rw (length-words bytes) (words-layout bytes (layoutIn bytes) (sym (header-image bytes e))) in
+    let image : imageRefusal (length (wordsIn bytes)) (layoutIn bytes) ≡ 0 =
+    rw (length-words bytes) (words-layout bytes (layoutIn bytes) (sym (header-image bytes e))) in
     rw (image, size, le-ltb 32768 (length bytes) (ok .frame .most), le-ltb room (length bytes) l)
 
 pub again : (bytes : List ℕ) (layout : Layout) (image : List ℕ) → FittingBytes bytes → Read bytes layout image

@@ -11,7 +11,6 @@ use Rattle.ground.specs.Rules.{FirstOf}
 use Rattle.ground.proofs.Ladder.{first-more}
 use Rattle.layout.specs.declared.Layout.{Layout}
 use Rattle.layout.specs.Layout.{rowsOf, blocks}
-use Rattle.layout.specs.Refusal.{lengthRung}
 use Rattle.layout.specs.Reason.{badLength}
 use Rattle.layout.proofs.Ladder.{length-rung}
 use Rattle.file.specs.declared.Header.{Header}
@@ -51,7 +50,8 @@ module _ (bytes image : List ℕ) where
     pub reads-other : (length image ≡ wordCount (length bytes) → ⊥) → ReadsFile bytes image (Refused 4) bytes image
     unfolding readRefusal
     reads-other ne =
-        leaves-by 4 _ _ (rw (passed, ne-eqb (length image) (rowsOf (layoutIn bytes) * blocks (layoutIn bytes)) (λ e. ne (e ∙ sym (words-exact bytes passed))))) refl refl
+        let words = rowsOf (layoutIn bytes) * blocks (layoutIn bytes) in
+        leaves-by 4 _ _ (rw (passed, ne-eqb (length image) words (λ e. ne (e ∙ sym (words-exact bytes passed))))) refl refl
 
     pub reads-words : (left : List ℕ) → length image ≡ wordCount (length bytes) → left ≡ wordsInto bytes image → ReadsFile bytes image (Image layout) bytes left
     unfolding readRefusal

@@ -1,5 +1,5 @@
 -- The writer's answer by its numbers, so that its promise leaves one outcome; the outcomes that keep it; its refusals by their rules. Assumes nothing.
-use Prim.Native.Nat.{ℕ, zero, suc, _≤_}
+use Prim.Native.Nat.{ℕ, zero, suc}
 use mathlib.Core.Path.{_≡_, refl, sym, ap, _∙_}
 use mathlib.Core.List.{List, [], _∷_}
 use native.Mathlib.Omega.{arith}
@@ -55,7 +55,8 @@ module _ (image : List ℕ) (layout : Layout) (buffer : List ℕ) where
 
   pub writes-answer : {answer : Written} {kept left : List ℕ} → WritesFile image layout buffer answer kept left → answer ≡ writeAnswer image layout buffer
   writes-answer {answer} w =
-      written-told answer (writeAnswer image layout buffer) (w .numbered) (writes-of .numbered) (same (w .number) (writes-of .number)) (same (w .bytes) (writes-of .bytes))
+      written-told answer (writeAnswer image layout buffer) (w .numbered) (writes-of .numbered) (same (w .number) (writes-of .number))
+      (same (w .bytes) (writes-of .bytes))
 
   -- ---- the ladder is the first of its rules
 

@@ -27,7 +27,8 @@ pub one-file-read : (bytes image : List ℕ) {a b : Header} {kept kept' after af
     → ReadsFile bytes image b kept' after'
     → (a ≡ b) × (kept ≡ kept') × (after ≡ after')
 one-file-read bytes image {a} {b} p q =
-    (same (names-read bytes (length image) a (p .answers)) (names-read bytes (length image) b (q .answers)), same (p .keeps) (q .keeps), same (p .leaves) (q .leaves))
+    let header = names-read bytes (length image) in
+    (same (header a (p .answers)) (header b (q .answers)), same (p .keeps) (q .keeps), same (p .leaves) (q .leaves))
 
 pub one-file-write : (image : List ℕ) (layout : Layout) (buffer : List ℕ) {a b : Written} {kept kept' after after' : List ℕ}
     → WritesFile image layout buffer a kept after

@@ -15,7 +15,7 @@ use Rattle.layout.specs.Refusal.{imageRefusal}
 use Rattle.layout.proofs.Ladder.{geometry, image-layout, groups-few}
 use Rattle.file.specs.BigEndian.{wordBytes}
 use Rattle.file.specs.Bytes.{bytesOf, headOf, fileOf, fileLength, fileInto}
-use Rattle.file.specs.Refusal.{longRung, roomRung, writeRefusal}
+use Rattle.file.specs.Refusal.{longRung, writeRefusal}
 use Rattle.file.specs.Inner.{Small, headByte, bodyByte, withWord}
 use Rattle.file.proofs.RoundTrip.{length-bytes, length-file}
 

@@ -1,7 +1,7 @@
 -- What the code computes on its way: bytes put one by one. Assumes nothing.
 use Prim.Native.Nat.{ℕ, _+_, _/_, _%_, _≤_, _<_}
 use mathlib.Core.List.{List}
-use lib.ListN.{set, length, getD}
+use lib.ListN.{set, getD}
 use Rattle.layout.specs.declared.Layout.{Layout}
 use Rattle.file.specs.Bytes.{bytesOf, headOf, fileLength}
 
