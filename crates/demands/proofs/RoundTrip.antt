@@ -15,7 +15,7 @@ use Rattle.layout.specs.Reason.{imageRules}
 use Rattle.layout.proofs.Ladder.{image-exact, image-first}
 use Rattle.layout.proofs.Shapes.{shape-one, shape-two}
 use Rattle.file.specs.declared.Written.{Written}
-use Rattle.file.specs.Bytes.{FittingBytes, fileOf, fileLength, layoutIn, wordsIn}
+use Rattle.file.specs.Bytes.{FittingBytes, bytesOf, fileOf, fileLength, layoutIn, wordsIn}
 use Rattle.file.specs.Refusal.{longRung, fileRefusal, readRefusal, writeRefusal}
 use Rattle.file.specs.Reason.{tooLong, noRoom}
 use Rattle.file.specs.Written.{WritesFile}
@@ -25,7 +25,7 @@ use Rattle.file.proofs.RoundTrip.{length-file, layout-back, words-back, refusal
 use Rattle.text.specs.Page.{endToEnd}
 use Rattle.report.specs.Report.{imageReport, reportOf}
 use Rattle.report.proofs.OneResult.{one-report}
-use Rattle.demands.specs.RoundTrip.{Read, inspecting, whole, Wrote, Back, Again, Printed, Edge, Most, RoundTrip}
+use Rattle.demands.specs.RoundTrip.{Read, inspecting, whole, Wrote, Back, Again, Printed, Edge, Most, sampleImage, sampleFile, RoundTrip}
 use Rattle.demands.proofs.Files.{accepted-lines, written-file, file-writes}
 
 -- ---- what reading gives is what stands in the bytes
@@ -125,6 +125,12 @@ printed image layout file w =
           j;
     }
 
+-- ---- the specification's own file
+
+sample : (file : List ℕ) → Wrote sampleImage (layoutOf 1 1 1) file → file ≡ sampleFile
+unfolding fileOf bytesOf
+sample file w = filed sampleImage (layoutOf 1 1 1) file w .file-of
+
 -- ---- the edges
 
 edge : (shape most words bytes : ℕ)
@@ -165,6 +171,7 @@ round-trip =
       back = back;
       again = again;
       printed = printed;
+      sample = sample;
       largest-one = edge 1 511 8176 32713 refl refl (λ room l. rw (lt-ltb room 32713 l)) (λ room. refl);
       largest-two = edge 2 113 8136 32553 refl refl (λ room l. rw (lt-ltb room 32553 l)) (λ room. refl);
       most-one = most-by 1 16 511 (λ layout e. ap rows (shape-one (layout .shape) e)) (λ n l. omega arith) (λ n l. omega arith);

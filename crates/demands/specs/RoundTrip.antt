@@ -2,9 +2,9 @@
 -- that file, byte for byte; so the inspecting program prints the same of both. All of it is said of what the promises allow. Assumes nothing.
 use Prim.Native.Nat.{ℕ, suc, _+_, _≤_, _<_}
 use mathlib.Core.Path.{_≡_}
-use mathlib.Core.List.{List}
+use mathlib.Core.List.{List, _∷_, _++_}
 use mathlib.Core.Logic.{_↔_}
-use lib.ListN.{length, take, drop}
+use lib.ListN.{length, take, drop, replicate}
 use Rattle.ground.specs.Rules.{NoneOf}
 use Rattle.layout.specs.declared.Layout.{Layout}
 use Rattle.layout.specs.Layout.{layoutOf, rowsOf, blocks}
@@ -85,6 +85,14 @@ Most shape most =
     → WritesFile image layout buffer answer kept after
     → (writtenNumber answer ≡ 11) ↔ (most < blocks layout)
 
+-- ---- the specification's own file: shape 1, s = 1, G = 1, row 3 is 1 and the others are 0; 73 bytes
+
+abbrev pub sampleImage : List ℕ
+sampleImage = 0 ∷ 0 ∷ 1 ∷ replicate 13 0
+
+abbrev pub sampleFile : List ℕ
+sampleFile = 1 ∷ 0 ∷ 0 ∷ 0 ∷ 68 ∷ 1 ∷ 1 ∷ 0 ∷ 1 ∷ replicate 11 0 ++ 1 ∷ replicate 52 0
+
 -- ---- all together
 
 pub record RoundTrip : Type 0 where
@@ -93,6 +101,7 @@ pub record RoundTrip : Type 0 where
       → (buffer : List ℕ) (answer : Written) (kept after : List ℕ) → length bytes ≤ length buffer → WritesFile image layout buffer answer kept after
       → Again bytes buffer answer after
   pub printed : (image : List ℕ) (layout : Layout) (file : List ℕ) → Wrote image layout file → Printed image layout file
+  pub sample : (file : List ℕ) → Wrote sampleImage (layoutOf 1 1 1) file → file ≡ sampleFile
   pub largest-one : Edge 1 511 8176 32713
   pub largest-two : Edge 2 113 8136 32553
   pub most-one : Most 1 511
