@@ -197,7 +197,7 @@ static void set_file(void)
     offset = (offset + 1) % 16;
     file = file_room + GUARDS + offset, file_length = length;
     set_file_guards();
-    memset(file, 0, length);
+    for (size_t i = 0; i < length; i++) file[i] = (uint8_t)(i * 29 + 165);
     for (size_t i = 0; more(); i++) file[i] = (uint8_t)number();
     memcpy(file_shadow, file, length);
 }

@@ -136,13 +136,22 @@ static void expect_room(const uint8_t *file, size_t length)
 static void read_back(const uint8_t *file, size_t length)
 {
     uint32_t told[2][FOLDGREBE_LAYOUT_WORDS] = { { 0 }, { 0 } };
-    const uint32_t layout[FOLDGREBE_LAYOUT_WORDS] = { shape, s, g };
     memcpy(kept, image, words * sizeof *image);
     for (size_t i = 0; i < words; i++) image[i] = (uint32_t)random_number();
     expect(foldgrebe_file_layout(file, length, told[0]) == 0, "file_layout refused", 0);
     expect(foldgrebe_file_read(file, length, image, words, told[1]) == 0, "file_read refused", 0);
-    expect(memcmp(told[0], layout, sizeof layout) == 0 && memcmp(told[1], layout, sizeof layout) == 0, "file has another layout", 0);
+    for (int k = 0; k < 2; k++)
+        expect(told[k][FOLDGREBE_LAYOUT_SHAPE] == shape && told[k][FOLDGREBE_LAYOUT_INTERLEAVE] == s && told[k][FOLDGREBE_LAYOUT_GROUPS] == g,
+               "file has another layout", 0);
     expect(memcmp(kept, image, words * sizeof *image) == 0, "file_read is not what was written", 0);
+}
+
+/* A buffer that is one byte short is refused, and stays. */
+static void expect_short(uint8_t *file, size_t length)
+{
+    uint32_t written = 1;
+    expect(foldgrebe_file_write(image, words, shape, s, g, file, length - 1, &written) == 12 && written == 0, "short buffer not refused", 0);
+    expect_room(file, 0);
 }
 
 /* The image goes into a file, at any byte of the room, and comes back; one that is too large is refused. */
@@ -152,6 +161,7 @@ static void file_one(void)
     size_t length = 9 + 4 * words, lent = length + below(3) * 32;
     uint32_t written = 1;
     memset(file_room, (uint8_t)GUARD, sizeof file_room);
+    if (length <= FOLDGREBE_FILE_BYTES) expect_short(file, length);
     uint32_t number = foldgrebe_file_write(image, words, shape, s, g, file, lent > FOLDGREBE_FILE_BYTES ? FOLDGREBE_FILE_BYTES : lent, &written);
     files++;
     if (length > FOLDGREBE_FILE_BYTES) { expect(number == 11 && written == 0, "file that is too long not refused", 0); length = 0; }

@@ -36,6 +36,11 @@ pub fn refuse(file: &[u8], bytes: u64) -> u32 {
     }
 }
 
+/// Whether a file that is refused for its body has one to three bytes too many, which are no word.
+pub fn uneven(file: &[u8], bytes: u64) -> bool {
+    refuse(file, bytes) == 4 && (bytes - HEADER as u64) / 4 == words_told(file)
+}
+
 fn told(file: &[u8]) -> Told {
     [u32::from(file[5]), u32::from(file[6]), number_in(&file[7..9]) as u32]
 }

@@ -8,6 +8,11 @@ use crate::random::Random;
 /// A byte that is put into the room: its index and what it is.
 pub type Spoilt = (usize, u8);
 
+/// What a byte of the room holds where nothing is put: all are told apart, so that one that is altered is seen.
+pub fn filler(index: usize) -> u8 {
+    (index * 29 + 165) as u8
+}
+
 /// The length of the file of an image of this layout, be it too long or not.
 pub fn length(at: Layout) -> usize {
     HEADER + 4 * at.words()
@@ -31,7 +36,7 @@ fn other_layout(r: &mut Random, at: Layout) -> Layout {
     if r.chance(50) { generate::tiny_layout(r) } else { generate::same_length(r, at) }
 }
 
-/// Zeros, a file of zeros, a whole small file, or anything at the front: what is written as text stays short.
+/// Nothing, a header, a whole small file, or anything at the front, and the filler behind: what is written as text stays short.
 pub fn any_room(r: &mut Random, at: Layout) -> Vec<u8> {
     let mut room = match r.below(100) {
         0..=29 => Vec::new(),
@@ -44,7 +49,8 @@ pub fn any_room(r: &mut Random, at: Layout) -> Vec<u8> {
         _ => (0..r.below(64)).map(|_| r.word() as u8).collect(),
     };
     let length = any_length(r, at);
-    room.resize(length, 0);
+    room.truncate(length);
+    room.extend((room.len()..length).map(filler));
     room
 }
 
@@ -66,14 +72,22 @@ fn spoilt_header(r: &mut Random, at: Layout, room: &[u8]) -> Vec<Spoilt> {
     }
 }
 
+/// The scene's own header, but that its length field counts one to three bytes more, which are no word.
+fn uneven_header(r: &mut Random, at: Layout) -> Vec<Spoilt> {
+    let mut header = file::header(at.shape, at.s, at.g, at.words());
+    header[1..5].copy_from_slice(&((length(at) - 5) as u32 + r.from_to(1, 3)).to_be_bytes());
+    placed(0, &header)
+}
+
 fn placed(first: usize, bytes: &[u8]) -> Vec<Spoilt> {
     bytes.iter().enumerate().map(|(k, byte)| (first + k, *byte)).collect()
 }
 
-/// Bytes to put into the room: a header made right again, or spoilt once or twice, or some bytes of the body.
+/// Bytes to put into the room: a header made right again, or right but for some bytes too many, or spoilt once or twice, or some bytes of the body.
 pub fn spoil(r: &mut Random, at: Layout, room: &[u8]) -> Vec<Spoilt> {
     let mut spoilt = match r.below(100) {
-        0..=29 => placed(0, &file::header(at.shape, at.s, at.g, at.words())),
+        0..=25 => placed(0, &file::header(at.shape, at.s, at.g, at.words())),
+        26..=29 => uneven_header(r, at),
         30..=69 => spoilt_header(r, at, room),
         70..=84 => [spoilt_header(r, at, room), spoilt_header(r, at, room)].concat(),
         _ => (0..r.from_to(1, 4)).map(|_| (r.below(room.len() as u64 + 1) as usize, r.word() as u8)).collect(),

@@ -52,6 +52,7 @@ pub fn kind(call: &Call, answer: &Answer, before: &Lent) -> String {
         (Name::FileWrite, 0) => "longer",
         (Name::FileLayout | Name::FileRead, 10) if call.bytes < file::HEADER as u64 => "short",
         (Name::FileLayout | Name::FileRead, 10) => "field",
+        (Name::FileLayout | Name::FileRead, 4) if file::uneven(&before.file, call.bytes) => "uneven",
         (Name::FileRead, 4) if file::refuse(&before.file, call.bytes) == 4 => "body",
         (Name::FileRead, 4) => "image",
         _ => "",
@@ -69,8 +70,8 @@ pub fn kinds() -> Vec<String> {
         ("ask", &["0 new", "0 again", "0 again-full", "1", "2", "3", "5", "6", "8"]),
         ("turn", &["0 alone", "0 asked", "0 twice", "1", "2", "3", "4", "5"]),
         ("file_write", &["0 exact", "0 longer", "1", "2", "3", "4", "11", "12"]),
-        ("file_layout", &["0", "11", "10 short", "9", "10 field", "1", "2", "3", "4"]),
-        ("file_read", &["0", "11", "10 short", "9", "10 field", "1", "2", "3", "4 body", "4 image"]),
+        ("file_layout", &["0", "11", "10 short", "9", "10 field", "1", "2", "3", "4", "4 uneven"]),
+        ("file_read", &["0", "11", "10 short", "9", "10 field", "1", "2", "3", "4 body", "4 uneven", "4 image"]),
     ];
     let mut kinds = Vec::new();
     for (name, answers) in ladders {

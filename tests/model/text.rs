@@ -4,7 +4,7 @@
 use crate::call::{Answer, Call, Lent, Name};
 use crate::generate::Flip;
 use crate::patrol::Record;
-use crate::room::Spoilt;
+use crate::room::{filler, Spoilt};
 
 /// More changed words than these are told by their count and a hash of the image.
 const MOST_CHANGES: usize = 144;
@@ -53,9 +53,9 @@ pub fn flip_line(flips: &[Flip]) -> String {
     line
 }
 
-/// The room for a file; bytes that are not given are zero.
+/// The room for a file; bytes that are not given are the filler.
 pub fn file_line(file: &[u8]) -> String {
-    let used = file.iter().rposition(|byte| *byte != 0).map_or(0, |at| at + 1);
+    let used = (0..file.len()).rfind(|at| file[*at] != filler(*at)).map_or(0, |at| at + 1);
     let mut line = String::from("file");
     put(&mut line, file.len() as u64);
     file[..used].iter().for_each(|byte| put(&mut line, u64::from(*byte)));

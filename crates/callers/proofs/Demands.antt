@@ -4,7 +4,7 @@ use mathlib.Core.Path.{_≡_, refl, sym, ap, ap₂, _∙_}
 use mathlib.Core.List.{List, [], _∷_, _++_}
 use lib.ListN.{length, getD, replicate}
 use Rattle.ground.specs.Choice.{ifZero}
-use Rattle.ground.specs.Rules.{Rule, Ruled}
+use Rattle.ground.specs.Rules.{Ruled}
 use Rattle.ground.proofs.Choices.{refused-kept}
 use Rattle.block.specs.Block.{Fitting}
 use Rattle.block.specs.Verdict.{Said, unsaid, saidWords}
@@ -45,8 +45,8 @@ round-trips = record { words = same-words; back = same-record }
 -- ---- demand 1
 
 -- a number that is told goes by the rules, and what it tells
-refusing : {rules : List Rule} {number told : ℕ} {Else : Type 0} → number ≡ told → Ruled rules told → ((told ≡ 0 → ⊥) → Else)
-    → CallerRefusing rules number Else
+pub refusing : {Goes : ℕ → Type 1} {number told : ℕ} {Else : Type 0} → number ≡ told → Goes told → ((told ≡ 0 → ⊥) → Else)
+    → CallerRefusing Goes number Else
 refusing e ruled else = record { ruled = rw e ruled; unchanged = λ ne. else (λ z. ne (e ∙ z)) }
 
 -- what is said where a call is refused, as words
@@ -63,13 +63,13 @@ lent-back lent size number moved ne = ap recordWords (refused-kept number moved 
 
 module _ {image : List ℕ} {layout : Layout} {block number : ℕ} where
   write-refuses : {list after : List ℕ} → WriteCall image layout block list number after
-      → CallerRefusing (dataRules (length image) layout block (length list)) number (after ≡ image)
+      → CallerRefusing (Ruled (dataRules (length image) layout block (length list))) number (after ≡ image)
   write-refuses {list} c =
       let d = demand-1 .write image layout block list _ _ (writes image layout block list refl refl) in
       refusing (write-said c) (d .ruled) (λ ne. c .leaves ∙ d .unchanged ne)
 
   read-refuses : {buffer kept after verdict : List ℕ} → ReadCall image layout block buffer number kept after verdict
-      → CallerRefusing (dataRules (length image) layout block (length buffer)) number
+      → CallerRefusing (Ruled (dataRules (length image) layout block (length buffer))) number
       ((kept ≡ image) × (after ≡ buffer) × (verdict ≡ replicate verdictWidth 0))
   read-refuses {buffer} c =
       let d = demand-1 .read image layout block buffer _ _ _ (reads image layout block buffer refl refl) in
@@ -77,21 +77,21 @@ module _ {image : List ℕ} {layout : Layout} {block number : ℕ} where
       refusing told (d .ruled) (λ ne. (c .keeps, c .leaves ∙ d .unchanged ne, c .says ∙ none-said _ _ (λ z. ne (sym told ∙ c .answers ∙ z))))
 
   visit-refuses : {after verdict : List ℕ} → VisitCall image layout block number after verdict
-      → CallerRefusing (blockRules (length image) layout block) number ((after ≡ image) × (verdict ≡ replicate verdictWidth 0))
+      → CallerRefusing (Ruled (blockRules (length image) layout block)) number ((after ≡ image) × (verdict ≡ replicate verdictWidth 0))
   visit-refuses c =
       let d = demand-1 .visit image layout block _ _ (visits image layout block refl refl) in
       let told = visit-said c .0 in
       refusing told (d .ruled) (λ ne. (c .leaves ∙ d .unchanged ne, c .says ∙ none-said _ _ (λ z. ne (sym told ∙ c .answers ∙ z))))
 
 format-refuses : {image after words : List ℕ} {layout : Layout} {number : ℕ} → FormatCall image layout number after words
-    → CallerRefusing (imageRules (length image) layout) number ((after ≡ image) × (words ≡ replicate recordWidth 0))
+    → CallerRefusing (Ruled (imageRules (length image) layout)) number ((after ≡ image) × (words ≡ replicate recordWidth 0))
 unfolding formatted
 format-refuses {image} {after} {words} {layout} c =
     let d = demand-1 .format image layout _ _ (formats image layout refl refl) in
     refusing (c .answers) (d .ruled) (λ ne. let kept = d .unchanged ne in (c .leaves ∙ kept .1, c .back ∙ ap recordWords (kept .0)))
 
 ask-refuses : {lent words place : List ℕ} {block number : ℕ} → length lent ≡ recordWidth → AskCall lent block number words place
-    → CallerRefusing (askRules (recordOf lent) block) number ((words ≡ lent) × (place ≡ 0 ∷ []))
+    → CallerRefusing (Ruled (askRules (recordOf lent) block)) number ((words ≡ lent) × (place ≡ 0 ∷ []))
 ask-refuses {lent} {words} {place} {block} size c =
     let d = demand-1 .ask (recordOf lent) block _ (asks (recordOf lent) block refl) in
     let told = ask-said c in
@@ -102,7 +102,7 @@ ask-refuses {lent} {words} {place} {block} size c =
     ))
 
 turn-refuses : {lent image words after report : List ℕ} {number : ℕ} → length lent ≡ recordWidth → TurnCall lent image number words after report
-    → CallerRefusing (turnRules (recordOf lent) (length image)) number ((words ≡ lent) × (after ≡ image) × (report ≡ replicate reportWidth 0))
+    → CallerRefusing (Ruled (turnRules (recordOf lent) (length image))) number ((words ≡ lent) × (after ≡ image) × (report ≡ replicate reportWidth 0))
 turn-refuses {lent} {image} size c =
     let d = demand-1 .turn (recordOf lent) image _ _ (turns (recordOf lent) image refl refl) in
     let told = turn-said c .0 in

@@ -1,127 +1,149 @@
 -- The demands on files hold of a caller in C. Assumes nothing.
-use Prim.Native.Nat.{ℕ, _≤_}
+use Prim.Native.Nat.{ℕ, _+_, _*_, _≤_}
 use mathlib.Core.Path.{_≡_, refl, sym, ap, _∙_}
 use mathlib.Core.List.{List, [], _∷_}
-use lib.ListN.{length, getD, take, drop}
+use lib.ListN.{length, take, drop}
+use Rattle.ground.specs.Choice.{ifZero}
+use Rattle.ground.specs.Rules.{Ruled, InOrder}
 use Rattle.layout.specs.declared.Layout.{Layout}
-use Rattle.file.specs.Bytes.{FittingBytes}
+use Rattle.layout.specs.Layout.{layoutOf}
+use Rattle.file.specs.declared.Header.{Header}
+use Rattle.file.specs.Bytes.{FittingBytes, layoutIn, wordsIn}
 use Rattle.file.specs.Reason.{fileRules, readRules, writeRules}
-use Rattle.file.specs.Header.{headerNumber, headerLayout, headerOf, readHeader, HeaderRead, ReadsFile}
+use Rattle.file.specs.Header.{headerNumber, headerLayout, headerOf, readHeader, HeaderTells, HeaderRead, ReadsFile}
 use Rattle.file.specs.Written.{writtenNumber, writtenBytes, WritesFile, writeAnswer}
-use Rattle.file.proofs.Headers.{header-read, read-names}
-use Rattle.file.proofs.FileWrites.{writes-of}
-use Rattle.words.specs.Files.{layoutWords}
+use Rattle.file.proofs.Headers.{header-read, read-tells}
+use Rattle.file.proofs.FileWrites.{file-written}
+use Rattle.words.specs.Layouts.{layoutHeld, layoutWords}
 use Rattle.foldgrebe.specs.FileCalls.{FileWriteCall, FileLayoutCall, FileReadCall}
 use Rattle.demands.specs.RoundTrip.{Read, whole}
 use Rattle.demands.proofs.Files.{file-demand}
-use Rattle.demands.proofs.RoundTrip.{round-trip}
+use Rattle.demands.proofs.RoundTrip.{file-round-trip}
 use Rattle.callers.specs.Demands.{CallerRefusing}
-use Rattle.callers.specs.Files.{CallerOrdered, CallerBack, layoutTold, CallerFiles}
+use Rattle.callers.specs.Files.{CallerWrote, CallerBack, CallerFiles}
+use Rattle.callers.proofs.Demands.{refusing}
 
--- ---- the promise of the code that a call's own promise tells
+-- ---- what a call tells is the answer of the code that it calls
 
 module _ {image buffer : List ℕ} {layout : Layout} {number : ℕ} {kept after written : List ℕ}
     (c : FileWriteCall image layout buffer number kept after written) where
   wrote : WritesFile image layout buffer (writeAnswer image layout buffer) kept after
   wrote =
-      let w = writes-of image layout buffer in
+      let w = file-written image layout buffer in
       record { number = w .number; bytes = w .bytes; keeps = c .keeps; leaves = c .leaves; numbered = w .numbered }
 
-  wrote-number : writtenNumber (writeAnswer image layout buffer) ≡ number
-  wrote-number = wrote .number ∙ sym (c .answers)
+  wrote-number : number ≡ writtenNumber (writeAnswer image layout buffer)
+  wrote-number = c .answers ∙ sym (wrote .number)
 
   wrote-bytes : written ≡ writtenBytes (writeAnswer image layout buffer) ∷ []
   wrote-bytes = c .says ∙ ap (λ (count : ℕ). count ∷ []) (sym (wrote .bytes))
 
+-- a header's number and words
+tells : {refusal number : ℕ} {named : Layout} {words : List ℕ} (header : Header) → HeaderTells refusal named header → number ≡ refusal
+    → words ≡ layoutWords (ifZero refusal named (layoutOf 0 0 0))
+    → (number ≡ headerNumber header) × (words ≡ layoutWords (headerLayout header))
+tells header t n w = (n ∙ sym (t .number), w ∙ ap layoutWords (sym (t .layout)))
+
+told : (bytes : List ℕ) → HeaderRead bytes (headerOf bytes)
+told bytes = header-read bytes (headerOf bytes) refl
+
 module _ {bytes : List ℕ} {number : ℕ} {kept words : List ℕ} (c : FileLayoutCall bytes number kept words) where
-  told : HeaderRead bytes (headerOf bytes)
-  told = header-read bytes (headerOf bytes) refl
-
-  told-number : headerNumber (headerOf bytes) ≡ number
-  told-number = told .number ∙ sym (c .answers)
-
-  told-words : words ≡ layoutWords (headerLayout (headerOf bytes))
-  told-words = c .says ∙ ap layoutWords (sym (told .layout))
+  told-so : (number ≡ headerNumber (headerOf bytes)) × (words ≡ layoutWords (headerLayout (headerOf bytes)))
+  told-so = tells (headerOf bytes) (told bytes) (c .answers) (c .says)
 
 module _ {bytes image : List ℕ} {number : ℕ} {kept after words : List ℕ} (c : FileReadCall bytes image number kept after words) where
   read : ReadsFile bytes image (readHeader bytes (length image)) kept after
-  read = record { answers = read-names bytes (length image) (readHeader bytes (length image)) refl; keeps = c .keeps; leaves = c .leaves }
+  read = record { answers = read-tells bytes (length image) (readHeader bytes (length image)) refl; keeps = c .keeps; leaves = c .leaves }
 
-  read-number : headerNumber (readHeader bytes (length image)) ≡ number
-  read-number = read .answers .number ∙ sym (c .answers)
-
-  read-words : words ≡ layoutWords (headerLayout (readHeader bytes (length image)))
-  read-words = c .says ∙ ap layoutWords (sym (read .answers .layout))
+  read-so : (number ≡ headerNumber (readHeader bytes (length image))) × (words ≡ layoutWords (headerLayout (readHeader bytes (length image))))
+  read-so = tells (readHeader bytes (length image)) (read .answers) (c .answers) (c .says)
 
 -- ---- refusals
 
 write-refuses : {image buffer kept after written : List ℕ} {layout : Layout} {number : ℕ} → FileWriteCall image layout buffer number kept after written
-    → CallerRefusing (writeRules image layout buffer) number ((kept ≡ image) × (after ≡ buffer) × (written ≡ 0 ∷ []))
+    → CallerRefusing (Ruled (writeRules image layout buffer)) number ((kept ≡ image) × (after ≡ buffer) × (written ≡ 0 ∷ []))
 write-refuses {image} {buffer} {kept} {after} {written} {layout} c =
     let d = file-demand .write image layout buffer _ _ _ (wrote c) in
-    record {
-      ruled = rw (← wrote-number c) (d .ruled);
-      unchanged = λ ne.
-          let bare = d .unchanged (λ z. ne (sym (wrote-number c) ∙ z)) in
-          (c .keeps, bare .1, wrote-bytes c ∙ ap (λ (count : ℕ). count ∷ []) (bare .0));
-    }
+    refusing (wrote-number c) (d .ruled)
+    (λ ne. let bare = d .unchanged ne in (c .keeps, bare .1, wrote-bytes c ∙ ap (λ (count : ℕ). count ∷ []) (bare .0)))
 
 layout-refuses : {bytes kept words : List ℕ} {number : ℕ} → FileLayoutCall bytes number kept words
-    → CallerOrdered (fileRules bytes) number ((kept ≡ bytes) × (words ≡ 0 ∷ 0 ∷ 0 ∷ []))
+    → CallerRefusing (InOrder (fileRules bytes)) number ((kept ≡ bytes) × (words ≡ 0 ∷ 0 ∷ 0 ∷ []))
 layout-refuses {bytes} c =
-    let d = file-demand .header bytes _ (told c) in
-    record {
-      ruled = rw (← told-number c) (d .ruled);
-      unchanged = λ ne. (c .keeps, told-words c ∙ ap layoutWords (d .bare (λ z. ne (sym (told-number c) ∙ z))));
-    }
+    let d = file-demand .header bytes _ (told bytes) in
+    refusing (told-so c .0) (d .ruled) (λ ne. (c .keeps, told-so c .1 ∙ ap layoutWords (d .bare ne)))
 
 read-refuses : {bytes image kept after words : List ℕ} {number : ℕ} → FileReadCall bytes image number kept after words
-    → CallerOrdered (readRules bytes (length image)) number ((kept ≡ bytes) × (after ≡ image) × (words ≡ 0 ∷ 0 ∷ 0 ∷ []))
+    → CallerRefusing (InOrder (readRules bytes (length image))) number ((kept ≡ bytes) × (after ≡ image) × (words ≡ 0 ∷ 0 ∷ 0 ∷ []))
 read-refuses {bytes} {image} c =
     let d = file-demand .read bytes image _ _ _ (read c) in
-    record {
-      ruled = rw (← read-number c) (d .ruled);
-      unchanged = λ ne.
-          let bare = d .unchanged (λ z. ne (sym (read-number c) ∙ z)) in
-          (c .keeps, bare .1, read-words c ∙ ap layoutWords (bare .0));
-    }
+    refusing (read-so c .0) (d .ruled) (λ ne. let bare = d .unchanged ne in (c .keeps, bare .1, read-so c .1 ∙ ap layoutWords (bare .0)))
 
--- ---- through a file and back
+-- ---- accepted
 
-write-back : {image buffer kept after written : List ℕ} {layout : Layout} {number : ℕ} → FileWriteCall image layout buffer number kept after written
-    → number ≡ 0
-    → CallerBack image layout (take (getD written 0 0) after) × (drop (getD written 0 0) after ≡ drop (getD written 0 0) buffer)
-write-back {image} {buffer} {kept} {after} {written} {layout} c z =
-    let count : getD written 0 0 ≡ writtenBytes (writeAnswer image layout buffer) = ap (λ (l : List ℕ). getD l 0 0) (wrote-bytes c) in
-    let b = round-trip .back image layout (take (getD written 0 0) after)
-    (record {
-      buffer = buffer;
-      answer = writeAnswer image layout buffer;
-      kept = kept;
-      after = after;
-      promised = wrote c;
-      accepted = wrote-number c ∙ z;
-      file-is = ap (λ (n : ℕ). take n after) count;
-    }) in (
+layout-told : {bytes kept words : List ℕ} {number : ℕ} → FileLayoutCall bytes number kept words → number ≡ 0 → words ≡ layoutWords (layoutIn bytes)
+layout-told c z = c .says ∙ rw (sym (c .answers) ∙ z)
+
+words-copied : {bytes image kept after words : List ℕ} {number : ℕ} → FileReadCall bytes image number kept after words → number ≡ 0
+    → (words ≡ layoutWords (layoutIn bytes)) × (after ≡ wordsIn bytes)
+words-copied c z = let none = sym (c .answers) ∙ z in (c .says ∙ rw none, c .leaves ∙ rw none)
+
+module _ {image buffer kept after written : List ℕ} {layout : Layout} {number : ℕ}
+    (c : FileWriteCall image layout buffer number kept after written) (z : number ≡ 0) where
+  -- how many bytes are told
+  counted : writtenBytes (writeAnswer image layout buffer) ≡ 9 + 4 * length image
+  counted =
+      let d = file-demand .write image layout buffer _ _ _ (wrote c) in
+      d .count (d .ruled .accepted .0 (sym (wrote-number c) ∙ z))
+
+  file-wrote : CallerWrote image layout buffer after written
+  file-wrote =
+      let d = file-demand .write image layout buffer _ _ _ (wrote c) in
       record {
-        told = λ t. let h = b .header _ (told t) in (sym (told-number t) ∙ h .0, told-words t ∙ ap layoutWords (h .1));
+        count = wrote-bytes c ∙ ap (λ (count : ℕ). count ∷ []) counted;
+        file = rw (← counted) (d .file (d .ruled .accepted .0 (sym (wrote-number c) ∙ z)));
+        past = rw (← counted) (d .past);
+      }
+
+  file-back : CallerBack image layout (take (9 + 4 * length image) after)
+  file-back =
+      let b = file-round-trip .back image layout (take (9 + 4 * length image) after)
+      (record {
+        buffer = buffer;
+        answer = writeAnswer image layout buffer;
+        kept = kept;
+        after = after;
+        promised = wrote c;
+        accepted = sym (wrote-number c) ∙ z;
+        file-is = ap (λ (n : ℕ). take n after) (sym counted);
+      }) in
+      record {
+        told = λ t. let h = b .header _ (told _) in (told-so t .0 ∙ h .0, told-so t .1 ∙ ap layoutWords (h .1));
         read = λ e r.
             let passed = b .whole _ _ _ _ e (read r) in
             let same = b .same _ _ (whole _ _ _ _ (read r) passed) in
-            (sym (read-number r) ∙ passed, read-words r ∙ ap layoutWords (same .0), same .1);
-      },
-      rw count (file-demand .write image layout buffer _ _ _ (wrote c) .past),
-    )
+            (read-so r .0 ∙ passed, read-so r .1 ∙ ap layoutWords (same .0), same .1);
+      }
 
-read-again : {bytes lent kept image words : List ℕ} {number : ℕ} → FittingBytes bytes → FileReadCall bytes lent number kept image words → number ≡ 0
+file-again : {bytes lent kept image words : List ℕ} {number : ℕ} → FittingBytes bytes → FileReadCall bytes lent number kept image words → number ≡ 0
     → {buffer kept' after written : List ℕ} {number' : ℕ} → length bytes ≤ length buffer
-    → FileWriteCall image (layoutTold words) buffer number' kept' after written
+    → FileWriteCall image (layoutHeld words) buffer number' kept' after written
     → (number' ≡ 0) × (written ≡ length bytes ∷ []) × (take (length bytes) after ≡ bytes) × (drop (length bytes) after ≡ drop (length bytes) buffer)
-read-again {bytes} {lent} {kept} {image} {words} fits c z {buffer} l w =
-    let named : layoutTold words ≡ headerLayout (readHeader bytes (length lent)) = ap layoutTold (read-words c) in
-    let r : Read bytes (layoutTold words) image = rw named (whole _ lent kept image (read c) (read-number c ∙ z)) in
-    let a = round-trip .again bytes (layoutTold words) image fits r buffer _ _ _ l (wrote w) in
-    (sym (wrote-number w) ∙ a .accepted, wrote-bytes w ∙ ap (λ (count : ℕ). count ∷ []) (a .count), a .same, a .past)
+file-again {bytes} {lent} {kept} {image} {words} fits c z {buffer} l w =
+    let named : layoutHeld words ≡ headerLayout (readHeader bytes (length lent)) = ap layoutHeld (read-so c .1) in
+    let r : Read bytes (layoutHeld words) image = rw named (whole _ lent kept image (read c) (sym (read-so c .0) ∙ z)) in
+    let a = file-round-trip .again bytes (layoutHeld words) image fits r buffer _ _ _ l (wrote w) in
+    (wrote-number w ∙ a .accepted, wrote-bytes w ∙ ap (λ (count : ℕ). count ∷ []) (a .count), a .same, a .past)
 
 pub caller-files : CallerFiles
-caller-files = record { write = write-refuses; layout = layout-refuses; read = read-refuses; back = write-back; again = read-again }
+caller-files =
+    record {
+      write = write-refuses;
+      layout = layout-refuses;
+      read = read-refuses;
+      wrote = file-wrote;
+      told = layout-told;
+      copied = words-copied;
+      back = file-back;
+      again = file-again;
+    }

@@ -3,7 +3,7 @@ use Prim.Native.Nat.{ℕ, suc, _+_, _≤_, _<_}
 use mathlib.Core.Path.{_≡_}
 use mathlib.Core.List.{List, [], _∷_, _++_}
 use lib.ListN.{length, getD, replicate}
-use Rattle.ground.specs.Rules.{Rule, Ruled}
+use Rattle.ground.specs.Rules.{Ruled}
 use Rattle.block.specs.Block.{Fitting}
 use Rattle.layout.specs.declared.Layout.{Layout}
 use Rattle.layout.specs.Layout.{wordsOf, blocks}
@@ -30,26 +30,26 @@ pub record RoundTrips : Type 0 where
 
 -- ---- demand 1: refused exactly for the stated reason, and then every lent word stays or, where it holds an answer, is 0
 
--- a number by a table of refusals, and what holds where it is not 0
-pub record CallerRefusing (rules : List Rule) (number : ℕ) (Else : Type 0) : Type 1 where
-  pub ruled : Ruled rules number
+-- a number, what it goes by, and what holds where it is not 0
+pub record CallerRefusing (Goes : ℕ → Type 1) (number : ℕ) (Else : Type 0) : Type 1 where
+  pub ruled : Goes number
   pub unchanged : (number ≡ 0 → ⊥) → Else
 
 pub record CallerDemand1 : Type 1 where
   pub write : {image list after : List ℕ} {layout : Layout} {block number : ℕ} → WriteCall image layout block list number after
-      → CallerRefusing (dataRules (length image) layout block (length list)) number (after ≡ image)
+      → CallerRefusing (Ruled (dataRules (length image) layout block (length list))) number (after ≡ image)
   pub read : {image buffer kept after verdict : List ℕ} {layout : Layout} {block number : ℕ}
       → ReadCall image layout block buffer number kept after verdict
-      → CallerRefusing (dataRules (length image) layout block (length buffer)) number
+      → CallerRefusing (Ruled (dataRules (length image) layout block (length buffer))) number
       ((kept ≡ image) × (after ≡ buffer) × (verdict ≡ replicate verdictWidth 0))
   pub visit : {image after verdict : List ℕ} {layout : Layout} {block number : ℕ} → VisitCall image layout block number after verdict
-      → CallerRefusing (blockRules (length image) layout block) number ((after ≡ image) × (verdict ≡ replicate verdictWidth 0))
+      → CallerRefusing (Ruled (blockRules (length image) layout block)) number ((after ≡ image) × (verdict ≡ replicate verdictWidth 0))
   pub format : {image after words : List ℕ} {layout : Layout} {number : ℕ} → FormatCall image layout number after words
-      → CallerRefusing (imageRules (length image) layout) number ((after ≡ image) × (words ≡ replicate recordWidth 0))
+      → CallerRefusing (Ruled (imageRules (length image) layout)) number ((after ≡ image) × (words ≡ replicate recordWidth 0))
   pub ask : {lent words place : List ℕ} {block number : ℕ} → length lent ≡ recordWidth → AskCall lent block number words place
-      → CallerRefusing (askRules (recordOf lent) block) number ((words ≡ lent) × (place ≡ 0 ∷ []))
+      → CallerRefusing (Ruled (askRules (recordOf lent) block)) number ((words ≡ lent) × (place ≡ 0 ∷ []))
   pub turn : {lent image words after report : List ℕ} {number : ℕ} → length lent ≡ recordWidth → TurnCall lent image number words after report
-      → CallerRefusing (turnRules (recordOf lent) (length image)) number ((words ≡ lent) × (after ≡ image) × (report ≡ replicate reportWidth 0))
+      → CallerRefusing (Ruled (turnRules (recordOf lent) (length image))) number ((words ≡ lent) × (after ≡ image) × (report ≡ replicate reportWidth 0))
 
 -- ---- demand 2: where the call is accepted, its words are those of an answer of which the demand holds
 

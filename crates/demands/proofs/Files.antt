@@ -1,4 +1,4 @@
--- The demand on files holds of every list of bytes. Assumes nothing.
+-- The demand on files holds, whatever is lent. Assumes nothing.
 use Prim.Native.Nat.{ℕ, zero, suc}
 use mathlib.Core.Path.{_≡_, refl, ap, _∙_}
 use mathlib.Core.List.{List, append-nil}
@@ -19,6 +19,7 @@ use Rattle.file.specs.Reason.{fileRules, readRules, writeRules}
 use Rattle.file.specs.Header.{headerOf, HeaderRead, ReadsFile}
 use Rattle.file.specs.Written.{writtenNumber, writtenBytes, WritesFile}
 use Rattle.file.proofs.Ladder.{file-first}
+use Rattle.file.proofs.RoundTrip.{length-file}
 use Rattle.file.proofs.FileReads.{read-first}
 use Rattle.file.proofs.FileWrites.{write-first}
 use Rattle.text.specs.Page.{endToEnd}
@@ -98,6 +99,7 @@ file-writes image layout buffer answer kept after w =
     let rules = ruled (writeRules image layout buffer) number tt (write-first image layout buffer) in
     record {
       ruled = rw (w .number) rules;
+      count = λ none. written-file image layout buffer w (rules .accepted .1 none) .0 ∙ length-file layout image;
       file = λ none. written-file image layout buffer w (rules .accepted .1 none) .1;
       past = past;
       unchanged = λ ne. let some = kept-so ne in (w .bytes ∙ refused-kept number _ 0 some, w .leaves ∙ refused-kept number _ buffer some);

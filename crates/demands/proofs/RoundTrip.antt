@@ -1,11 +1,12 @@
 -- Through a file and back: of all that the promises of the writer and the reader allow. Assumes nothing.
 use Prim.Native.Nat.{ℕ, suc, _+_, _*_, _≤_, _<_}
 use mathlib.Core.Path.{_≡_, refl, sym, ap, _∙_}
-use mathlib.Core.List.{List, [], _∷_}
+use mathlib.Core.List.{List, [], _∷_, _++_}
 use native.Mathlib.Omega.{arith}
 use borrow.Author.Tests.{lt-ltb, le-ltb}
-use lib.ListN.{length}
+use lib.ListN.{length, getD, take}
 use Rattle.shape.specs.Shape.{rows}
+use Rattle.ground.specs.Lists.{listOf}
 use Rattle.ground.proofs.Rules.{ruled}
 use Rattle.ground.proofs.Ladder.{then-zero}
 use Rattle.layout.specs.declared.Layout.{Layout}
@@ -14,18 +15,17 @@ use Rattle.layout.specs.Refusal.{lengthRung, layoutRefusal, imageRefusal}
 use Rattle.layout.specs.Reason.{imageRules}
 use Rattle.layout.proofs.Ladder.{image-exact, image-first}
 use Rattle.layout.proofs.Shapes.{shape-one, shape-two}
-use Rattle.file.specs.declared.Written.{Written}
-use Rattle.file.specs.Bytes.{FittingBytes, bytesOf, fileOf, fileLength, layoutIn, wordsIn}
-use Rattle.file.specs.Refusal.{longRung, fileRefusal, readRefusal, writeRefusal}
+use Rattle.file.specs.Bytes.{bytesOf, headOf, fileOf, fileLength, layoutIn, wordsIn}
+use Rattle.file.specs.Refusal.{longRung, frameRefusal, bodyRefusal, fileRefusal, readRefusal, writeRefusal}
 use Rattle.file.specs.Reason.{tooLong, noRoom}
-use Rattle.file.specs.Written.{WritesFile}
 use Rattle.file.proofs.Ladder.{accepted, header-image}
 use Rattle.file.proofs.Layouts.{words-fill, words-layout}
 use Rattle.file.proofs.RoundTrip.{length-file, layout-back, words-back, refusal-back, length-words, file-back}
 use Rattle.text.specs.Page.{endToEnd}
 use Rattle.report.specs.Report.{imageReport, reportOf}
 use Rattle.report.proofs.OneResult.{one-report}
-use Rattle.demands.specs.RoundTrip.{Read, inspecting, whole, Wrote, Back, Again, Printed, Edge, Most, sampleImage, sampleFile, RoundTrip}
+use Rattle.demands.specs.RoundTrip.{Read, inspecting, whole, Wrote, Edge, Most, sampleImage, sampleFile, Headed}
+use Rattle.demands.specs.RoundTrip.{ReadsBack, WritesAgain, PrintsSame, FileRoundTrip}
 use Rattle.demands.proofs.Files.{accepted-lines, written-file, file-writes}
 
 -- ---- what reading gives is what stands in the bytes
@@ -64,7 +64,7 @@ filed image layout file w =
       file-passed = refusal-back layout image ∙ rw (long .0, parts .0);
     }
 
-pub back : (image : List ℕ) (layout : Layout) (file : List ℕ) → Wrote image layout file → Back image layout file
+back : ReadsBack
 unfolding readRefusal imageRefusal
 back image layout file w =
     let f = filed image layout file w in
@@ -89,9 +89,7 @@ write-passed bytes room e l =
     rw (length-words bytes) (words-layout bytes (layoutIn bytes) (sym (header-image bytes e))) in
     rw (image, size, le-ltb 32768 (length bytes) (ok .frame .most), le-ltb room (length bytes) l)
 
-pub again : (bytes : List ℕ) (layout : Layout) (image : List ℕ) → FittingBytes bytes → Read bytes layout image
-    → (buffer : List ℕ) (answer : Written) (kept after : List ℕ) → length bytes ≤ length buffer → WritesFile image layout buffer answer kept after
-    → Again bytes buffer answer after
+again : WritesAgain
 again bytes layout image fits r buffer answer kept after l w =
     let s = stands bytes layout image r in
     let wrote = rw (s .named, s .words) at w in
@@ -111,7 +109,7 @@ again bytes layout image fits r buffer answer kept after l w =
 report-as : (bytes : List ℕ) (layout : Layout) (image : List ℕ) → Stands bytes layout image → reportOf bytes ≡ imageReport image layout
 report-as bytes layout image s = rw (s .named, s .words) (accepted-lines bytes (s .passed))
 
-pub printed : (image : List ℕ) (layout : Layout) (file : List ℕ) → Wrote image layout file → Printed image layout file
+printed : PrintsSame
 printed image layout file w =
     let f = filed image layout file w in
     let own : reportOf file ≡ imageReport image layout = report-as file layout image (rw (f .file-of)
@@ -130,6 +128,10 @@ printed image layout file w =
 sample : (file : List ℕ) → Wrote sampleImage (layoutOf 1 1 1) file → file ≡ sampleFile
 unfolding fileOf bytesOf
 sample file w = filed sampleImage (layoutOf 1 1 1) file w .file-of
+
+headed : (words : ℕ) (layout : Layout) → Headed words layout (headOf layout words)
+unfolding fileOf
+headed words layout image file e w = rw (filed image layout file w .file-of, ← e)
 
 -- ---- the edges
 
@@ -164,16 +166,35 @@ most-by shape rows most tall above below image layout buffer answer kept after e
       λ l. d .1 (none, rw size (below (blocks layout) l)),
     )
 
-pub round-trip : RoundTrip
+pub file-round-trip : FileRoundTrip
 unfolding writeRefusal imageRefusal layoutRefusal shapeNumbered
-round-trip =
+file-round-trip =
     record {
       back = back;
       again = again;
       printed = printed;
       sample = sample;
+      headed-one = headed 4800 (layoutOf 1 1 300);
+      headed-two = headed 1080 (layoutOf 2 3 5);
       largest-one = edge 1 511 8176 32713 refl refl (λ room l. rw (lt-ltb room 32713 l)) (λ room. refl);
       largest-two = edge 2 113 8136 32553 refl refl (λ room l. rw (lt-ltb room 32553 l)) (λ room. refl);
-      most-one = most-by 1 16 511 (λ layout e. ap rows (shape-one (layout .shape) e)) (λ n l. omega arith) (λ n l. omega arith);
-      most-two = most-by 2 72 113 (λ layout e. ap rows (shape-two (layout .shape) (λ q. omega arith))) (λ n l. omega arith) (λ n l. omega arith);
+      most-one = most-by 1 16 _ (λ layout e. ap rows (shape-one (layout .shape) e)) (λ n l. omega arith) (λ n l. omega arith);
+      most-two = most-by 2 72 _ (λ layout e. ap rows (shape-two (layout .shape) (λ q. omega arith))) (λ n l. omega arith) (λ n l. omega arith);
+      length-first = λ image buffer answer kept after e w. w .number ∙ rw e;
+    }
+
+-- ---- that every byte is below 256 is needed: 256 in the place of a byte is read into its word, and written as the byte before it
+
+pub record FittingNeeded : Type 0 where
+  pub bytes : List ℕ
+  pub passed : fileRefusal bytes ≡ 0
+  pub other : fileOf (layoutIn bytes) (wordsIn bytes) ≡ bytes → ⊥
+
+pub fitting-needed : FittingNeeded
+unfolding fileRefusal frameRefusal bodyRefusal layoutRefusal shapeNumbered fileOf bytesOf wordsIn listOf
+fitting-needed =
+    record {
+      bytes = take 72 sampleFile ++ 256 ∷ [];
+      passed = refl;
+      other = λ e. let z : _≡_ {A = ℕ} 1 0 = ap (λ (l : List ℕ). getD l 71 0) e in omega arith;
     }

@@ -1,7 +1,7 @@
 -- The demand on files: 11, 10, 9, 10, 1, 2, 3 and 4 are checked in this order and the first that applies wins. A refusal prints one line,
 -- `refused` and the number, and any other file the report of its image, whole. To be read into an image, it is checked for 4 once more.
 -- An image that is to be written is checked for 1, 2, 3, 4, 11 and 12. Refused, nothing that was lent is changed. Assumes nothing.
-use Prim.Native.Nat.{ℕ}
+use Prim.Native.Nat.{ℕ, _+_, _*_}
 use mathlib.Core.Path.{_≡_}
 use mathlib.Core.List.{List}
 use lib.ListN.{length, take, drop}
@@ -35,6 +35,7 @@ pub record FileReading (bytes image : List ℕ) (header : Header) (kept after : 
 -- refused, it answers no bytes, so that every one stays; the image stays
 pub record FileWriting (image : List ℕ) (layout : Layout) (buffer : List ℕ) (answer : Written) (kept after : List ℕ) : Type 1 where
   pub ruled : Ruled (writeRules image layout buffer) (writtenNumber answer)
+  pub count : NoneOf (writeRules image layout buffer) → writtenBytes answer ≡ 9 + 4 * length image
   pub file : NoneOf (writeRules image layout buffer) → take (writtenBytes answer) after ≡ fileOf layout image
   pub past : drop (writtenBytes answer) after ≡ drop (writtenBytes answer) buffer
   pub unchanged : (writtenNumber answer ≡ 0 → ⊥) → (writtenBytes answer ≡ 0) × (after ≡ buffer)

@@ -2,7 +2,7 @@
 -- that file, byte for byte; so the inspecting program prints the same of both. All of it is said of what the promises allow. Assumes nothing.
 use Prim.Native.Nat.{ℕ, suc, _+_, _≤_, _<_}
 use mathlib.Core.Path.{_≡_}
-use mathlib.Core.List.{List, _∷_, _++_}
+use mathlib.Core.List.{List, [], _∷_, _++_}
 use mathlib.Core.Logic.{_↔_}
 use lib.ListN.{length, take, drop, replicate}
 use Rattle.ground.specs.Rules.{NoneOf}
@@ -64,8 +64,7 @@ pub record Printed (image : List ℕ) (layout : Layout) (file : List ℕ) : Type
 
 -- ---- the edges
 
--- the largest file of a shape without interleave: a buffer of exactly its length will do, one byte less or
--- fewer is refused, and so is one block more
+-- the largest file of a shape without interleave: a buffer of exactly its length will do, a shorter one is refused, and so is one block more
 pub record Edge (shape most words bytes : ℕ) : Type 0 where
   pub exactly : (image buffer : List ℕ) (answer : Written) (kept after : List ℕ) → length image ≡ words → length buffer ≡ bytes
       → WritesFile image (layoutOf shape 1 most) buffer answer kept after
@@ -93,16 +92,37 @@ sampleImage = 0 ∷ 0 ∷ 1 ∷ replicate 13 0
 abbrev pub sampleFile : List ℕ
 sampleFile = 1 ∷ 0 ∷ 0 ∷ 0 ∷ 68 ∷ 1 ∷ 1 ∷ 0 ∷ 1 ∷ replicate 11 0 ++ 1 ∷ replicate 52 0
 
+-- a header with two bytes of G, and one where shape, s and G differ; the length field has two bytes in both
+abbrev pub Headed : ℕ → Layout → List ℕ → Type 0
+Headed words layout head = (image file : List ℕ) → length image ≡ words → Wrote image layout file → take 9 file ≡ head
+
 -- ---- all together
 
-pub record RoundTrip : Type 0 where
-  pub back : (image : List ℕ) (layout : Layout) (file : List ℕ) → Wrote image layout file → Back image layout file
-  pub again : (bytes : List ℕ) (layout : Layout) (image : List ℕ) → FittingBytes bytes → Read bytes layout image
-      → (buffer : List ℕ) (answer : Written) (kept after : List ℕ) → length bytes ≤ length buffer → WritesFile image layout buffer answer kept after
-      → Again bytes buffer answer after
-  pub printed : (image : List ℕ) (layout : Layout) (file : List ℕ) → Wrote image layout file → Printed image layout file
+abbrev pub ReadsBack : Type 0
+ReadsBack = (image : List ℕ) (layout : Layout) (file : List ℕ) → Wrote image layout file → Back image layout file
+
+abbrev pub WritesAgain : Type 0
+WritesAgain =
+    (bytes : List ℕ) (layout : Layout) (image : List ℕ) → FittingBytes bytes → Read bytes layout image
+    → (buffer : List ℕ) (answer : Written) (kept after : List ℕ) → length bytes ≤ length buffer
+    → WritesFile image layout buffer answer kept after
+    → Again bytes buffer answer after
+
+abbrev pub PrintsSame : Type 0
+PrintsSame = (image : List ℕ) (layout : Layout) (file : List ℕ) → Wrote image layout file → Printed image layout file
+
+pub record FileRoundTrip : Type 0 where
+  pub back : ReadsBack
+  pub again : WritesAgain
+  pub printed : PrintsSame
   pub sample : (file : List ℕ) → Wrote sampleImage (layoutOf 1 1 1) file → file ≡ sampleFile
+  pub headed-one : Headed 4800 (layoutOf 1 1 300) (1 ∷ 0 ∷ 0 ∷ 75 ∷ 4 ∷ 1 ∷ 1 ∷ 1 ∷ 44 ∷ [])
+  pub headed-two : Headed 1080 (layoutOf 2 3 5) (1 ∷ 0 ∷ 0 ∷ 16 ∷ 228 ∷ 2 ∷ 3 ∷ 0 ∷ 5 ∷ [])
   pub largest-one : Edge 1 511 8176 32713
   pub largest-two : Edge 2 113 8136 32553
   pub most-one : Most 1 511
   pub most-two : Most 2 113
+  -- 4 comes before 11: an image that is too long, and of another length than its layout says
+  pub length-first : (image buffer : List ℕ) (answer : Written) (kept after : List ℕ) → length image ≡ 8193
+      → WritesFile image (layoutOf 1 1 512) buffer answer kept after
+      → writtenNumber answer ≡ 4

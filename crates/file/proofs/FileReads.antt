@@ -21,7 +21,7 @@ use Rattle.file.specs.Reason.{fileRules, readRules}
 use Rattle.file.specs.Header.{headerIf, headerOf, readHeader, ReadsFile}
 use Rattle.file.proofs.Ladder.{accepted, file-first}
 use Rattle.file.proofs.Layouts.{words-fill, header-layout}
-use Rattle.file.proofs.Headers.{read-names}
+use Rattle.file.proofs.Headers.{read-tells}
 
 -- a file that is accepted has the words of its layout
 pub words-exact : (bytes : List ℕ) → fileRefusal bytes ≡ 0 → wordCount (length bytes) ≡ rowsOf (layoutIn bytes) * blocks (layoutIn bytes)
@@ -33,7 +33,7 @@ module _ (bytes image : List ℕ) where
       → left ≡ ifZero number (wordsIn bytes) image
       → ReadsFile bytes image header bytes left
   unfolding readHeader
-  leaves-by number header left e h l = record { answers = read-names bytes (length image) header (rw e h); keeps = refl; leaves = rw e l }
+  leaves-by number header left e h l = record { answers = read-tells bytes (length image) header (rw e h); keeps = refl; leaves = rw e l }
 
   pub reads-refused : (number : ℕ) → headerOf bytes ≡ Refused number → ReadsFile bytes image (Refused number) bytes image
   unfolding headerOf readRefusal

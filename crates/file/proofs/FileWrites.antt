@@ -3,12 +3,10 @@ use Prim.Native.Nat.{ℕ, zero, suc}
 use mathlib.Core.Path.{_≡_, refl, sym, ap, _∙_}
 use mathlib.Core.List.{List, [], _∷_}
 use native.Mathlib.Omega.{arith}
-use borrow.Author.Tests.{ltb-true, ltb-false}
-use lib.Dec.{ltb}
 use lib.ListN.{length}
 use Rattle.ground.specs.Choice.{ifZero}
 use Rattle.ground.specs.Rules.{FirstOf}
-use Rattle.ground.proofs.Ladder.{Rung, rung-test, first-then, first-front}
+use Rattle.ground.proofs.Ladder.{Rung, rung-below, first-then, first-front}
 use Rattle.ground.proofs.Same.{same}
 use Rattle.layout.specs.declared.Layout.{Layout}
 use Rattle.layout.specs.Reason.{imageRules}
@@ -45,34 +43,26 @@ module _ (image : List ℕ) (layout : Layout) (buffer : List ℕ) where
   writes-bytes left e l = record { number = sym e; bytes = rw e; keeps = refl; leaves = l ∙ rw e; numbered = λ q. let z : _≡_ {A = ℕ} 0 1 = cc in omega arith }
 
   -- the answer by its definition, and what is left, meet the promise, and are what it leaves
-  pub writes-of : WritesFile image layout buffer (writeAnswer image layout buffer) image (after refusal)
+  pub file-written : WritesFile image layout buffer (writeAnswer image layout buffer) image (after refusal)
   unfolding writeAnswer
-  writes-of = by refusal refl
+  file-written = by refusal refl
     where
       by : (n : ℕ) → n ≡ refusal → WritesFile image layout buffer (ifZero n (Bytes (length (fileOf layout image))) (Refused n)) image (after n)
       by zero e = writes-bytes _ (sym e) refl
       by (suc n) e = writes-refused (suc n) e (λ z. omega arith)
 
-  pub writes-answer : {answer : Written} {kept left : List ℕ} → WritesFile image layout buffer answer kept left → answer ≡ writeAnswer image layout buffer
-  writes-answer {answer} w =
-      written-told answer (writeAnswer image layout buffer) (w .numbered) (writes-of .numbered) (same (w .number) (writes-of .number))
-      (same (w .bytes) (writes-of .bytes))
+  pub file-answer : {answer : Written} {kept left : List ℕ} → WritesFile image layout buffer answer kept left → answer ≡ writeAnswer image layout buffer
+  file-answer {answer} w =
+      written-told answer (writeAnswer image layout buffer) (w .numbered) (file-written .numbered) (same (w .number) (file-written .number))
+      (same (w .bytes) (file-written .bytes))
 
   -- ---- the ladder is the first of its rules
 
   long-rung : Rung (tooLong (fileOf layout image)) (longRung (fileLength (length image)))
-  long-rung =
-      let size = length-file layout image in
-      rung-test (tooLong (fileOf layout image)) (ltb 32768 (fileLength (length image)))
-      (λ e. let l = ltb-true 32768 (fileLength (length image)) e in omega arith)
-      (λ e l. let m = ltb-false 32768 (fileLength (length image)) e in omega arith)
+  long-rung = rw (← length-file layout image) (rung-below (tooLong (fileOf layout image)) _ _ (λ l. l) (λ l. l))
 
   room-rung : Rung (noRoom (fileOf layout image) buffer) (roomRung (fileLength (length image)) (length buffer))
-  room-rung =
-      let size = length-file layout image in
-      rung-test (noRoom (fileOf layout image) buffer) (ltb (length buffer) (fileLength (length image)))
-      (λ e. let l = ltb-true (length buffer) (fileLength (length image)) e in omega arith)
-      (λ e l. let m = ltb-false (length buffer) (fileLength (length image)) e in omega arith)
+  room-rung = rw (← length-file layout image) (rung-below (noRoom (fileOf layout image) buffer) _ _ (λ l. l) (λ l. l))
 
   pub write-first : FirstOf (writeRules image layout buffer) refusal
   unfolding writeRefusal

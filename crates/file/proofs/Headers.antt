@@ -9,7 +9,7 @@ use Rattle.file.specs.declared.Header.{Header}
 use Rattle.file.specs.declared.Header.the-variants.{Refused, Image}
 use Rattle.file.specs.Bytes.{layoutIn}
 use Rattle.file.specs.Refusal.{fileRefusal, readRefusal}
-use Rattle.file.specs.Header.{headerNumber, headerLayout, headerIf, headerOf, readHeader, Names, HeaderRead}
+use Rattle.file.specs.Header.{headerNumber, headerLayout, headerIf, headerOf, readHeader, HeaderTells, HeaderRead}
 
 pub headers-told : (a b : Header) → (a ≡ Refused 0 → ⊥) → (b ≡ Refused 0 → ⊥) → headerNumber a ≡ headerNumber b → headerLayout a ≡ headerLayout b → a ≡ b
 headers-told (Refused m) (Refused n) p q e l = ap Refused e
@@ -19,28 +19,28 @@ headers-told (Image layout) (Image other) p q e l = ap Image l
 
 -- ---- the header by its definition meets the promise, and is what it leaves
 
-names-if : (refusal : ℕ) (named : Layout) → Names refusal named (headerIf refusal (Image named))
-names-if zero named = record { number = refl; layout = refl; numbered = λ q. let z : _≡_ {A = ℕ} 0 1 = cc in omega arith }
-names-if (suc n) named = record { number = refl; layout = refl; numbered = λ q. let z : suc n ≡ 0 = cc in omega arith }
+tells-if : (refusal : ℕ) (named : Layout) → HeaderTells refusal named (headerIf refusal (Image named))
+tells-if zero named = record { number = refl; layout = refl; numbered = λ q. let z : _≡_ {A = ℕ} 0 1 = cc in omega arith }
+tells-if (suc n) named = record { number = refl; layout = refl; numbered = λ q. let z : suc n ≡ 0 = cc in omega arith }
 
-pub names-is : (refusal : ℕ) (named : Layout) (header : Header) → Names refusal named header → header ≡ headerIf refusal (Image named)
-names-is refusal named header r =
-    let by = names-if refusal named in
+pub tells-is : (refusal : ℕ) (named : Layout) (header : Header) → HeaderTells refusal named header → header ≡ headerIf refusal (Image named)
+tells-is refusal named header r =
+    let by = tells-if refusal named in
     headers-told header (headerIf refusal (Image named)) (r .numbered) (by .numbered) (same (r .number) (by .number)) (same (r .layout) (by .layout))
 
 module _ (bytes : List ℕ) where
   pub header-is : (header : Header) → HeaderRead bytes header → header ≡ headerOf bytes
   unfolding headerOf
-  header-is header = names-is (fileRefusal bytes) (layoutIn bytes) header
+  header-is header = tells-is (fileRefusal bytes) (layoutIn bytes) header
 
   pub header-read : (header : Header) → header ≡ headerOf bytes → HeaderRead bytes header
   unfolding headerOf
-  header-read header e = rw e (names-if (fileRefusal bytes) (layoutIn bytes))
+  header-read header e = rw e (tells-if (fileRefusal bytes) (layoutIn bytes))
 
-  pub read-names : (len : ℕ) (header : Header) → header ≡ readHeader bytes len → Names (readRefusal bytes len) (layoutIn bytes) header
+  pub read-tells : (len : ℕ) (header : Header) → header ≡ readHeader bytes len → HeaderTells (readRefusal bytes len) (layoutIn bytes) header
   unfolding readHeader
-  read-names len header e = rw e (names-if (readRefusal bytes len) (layoutIn bytes))
+  read-tells len header e = rw e (tells-if (readRefusal bytes len) (layoutIn bytes))
 
-  pub names-read : (len : ℕ) (header : Header) → Names (readRefusal bytes len) (layoutIn bytes) header → header ≡ readHeader bytes len
+  pub read-is : (len : ℕ) (header : Header) → HeaderTells (readRefusal bytes len) (layoutIn bytes) header → header ≡ readHeader bytes len
   unfolding readHeader
-  names-read len header = names-is (readRefusal bytes len) (layoutIn bytes) header
+  read-is len header = tells-is (readRefusal bytes len) (layoutIn bytes) header

@@ -5,14 +5,14 @@ use mathlib.Core.Path.{_≡_, refl, sym, _∙_}
 use mathlib.Core.List.{List, [], _∷_, _++_}
 use native.Mathlib.Decide.{ℕ-discrete}
 use native.Mathlib.Omega.{arith}
-use borrow.Author.Tests.{eq-eqb, ne-eqb, eqb-true, eqb-false, ltb-true, ltb-false, not-true, not-false}
-use lib.Dec.{eqb, ltb}
+use borrow.Author.Tests.{eq-eqb, ne-eqb, eqb-true, eqb-false, ltb-false, not-true, not-false}
+use lib.Dec.{eqb}
 use lib.ListN.{length, length-drop}
 use Rattle.layout.specs.declared.Layout.{Layout}
 use Rattle.layout.specs.Layout.{rowsOf, blocks}
 use Rattle.ground.specs.Ladder.{_then_}
 use Rattle.ground.specs.Rules.{Rule, FirstOf}
-use Rattle.ground.proofs.Ladder.{Rung, rung-test, then-first, then-assoc, then-zero, first-more, first-front, test-passed}
+use Rattle.ground.proofs.Ladder.{Rung, rung-test, rung-below, then-first, then-assoc, then-zero, first-more, first-front, test-passed}
 use Rattle.layout.specs.Refusal.{layoutRefusal, imageRefusal}
 use Rattle.layout.specs.Reason.{layoutRules}
 use Rattle.layout.proofs.Ladder.{Geometry, geometry, layout-first}
@@ -117,7 +117,7 @@ module _ (bytes : List ℕ) where
       (shortRung (length bytes) then versionRung (versionIn bytes) then fieldRung (fieldIn bytes) (length bytes) then layout)
   from-short =
       first-front (tooShort bytes) (badVersion bytes ∷ badField bytes ∷ rules ++ badBody bytes ∷ []) _ _ (λ z. omega arith)
-      (rung-test (tooShort bytes) (ltb (length bytes) 9) (ltb-true _ _) (λ e l. let m = ltb-false (length bytes) 9 e in omega arith))
+      (rung-below (tooShort bytes) _ _ (λ l. l) (λ l. l))
       from-version
 
   pub file-first : FirstOf (fileRules bytes) (fileRefusal bytes)
@@ -125,7 +125,7 @@ module _ (bytes : List ℕ) where
   file-first =
       rw (then-assoc (longRung (length bytes)), then-assoc (shortRung (length bytes)), then-assoc (versionRung (versionIn bytes)))
       (first-front (tooLong bytes) (tooShort bytes ∷ badVersion bytes ∷ badField bytes ∷ rules ++ badBody bytes ∷ []) _ _ (λ z. omega arith)
-      (rung-test (tooLong bytes) (ltb 32768 (length bytes)) (ltb-true _ _) (λ e l. let m = ltb-false 32768 (length bytes) e in omega arith))
+      (rung-below (tooLong bytes) _ _ (λ l. l) (λ l. l))
       from-short)
 
 -- ---- the header by its refusals

@@ -1,4 +1,4 @@
--- One result: two outcomes that satisfy the promise of a function over a file are equal, answer and every lent word. Assumes nothing.
+-- One result: two outcomes that satisfy the promise of a function over a file are equal, answer and every lent word and byte. Assumes nothing.
 use Prim.Native.Nat.{ℕ}
 use mathlib.Core.Path.{_≡_}
 use mathlib.Core.List.{List}
@@ -10,8 +10,8 @@ use Rattle.file.specs.declared.Written.{Written}
 use Rattle.file.specs.Bytes.{CountsFileWords, ReadsWords}
 use Rattle.file.specs.Header.{HeaderRead, ReadsFile}
 use Rattle.file.specs.Written.{WritesFile}
-use Rattle.file.proofs.Headers.{header-is, names-read}
-use Rattle.file.proofs.FileWrites.{writes-answer}
+use Rattle.file.proofs.Headers.{header-is, read-is}
+use Rattle.file.proofs.FileWrites.{file-answer}
 
 pub one-header : (bytes : List ℕ) {a b : Header} → HeaderRead bytes a → HeaderRead bytes b → a ≡ b
 one-header bytes {a} {b} p q = same (header-is bytes a p) (header-is bytes b q)
@@ -27,7 +27,7 @@ pub one-file-read : (bytes image : List ℕ) {a b : Header} {kept kept' after af
     → ReadsFile bytes image b kept' after'
     → (a ≡ b) × (kept ≡ kept') × (after ≡ after')
 one-file-read bytes image {a} {b} p q =
-    let header = names-read bytes (length image) in
+    let header = read-is bytes (length image) in
     (same (header a (p .answers)) (header b (q .answers)), same (p .keeps) (q .keeps), same (p .leaves) (q .leaves))
 
 pub one-file-write : (image : List ℕ) (layout : Layout) (buffer : List ℕ) {a b : Written} {kept kept' after after' : List ℕ}
@@ -35,4 +35,4 @@ pub one-file-write : (image : List ℕ) (layout : Layout) (buffer : List ℕ) {a
     → WritesFile image layout buffer b kept' after'
     → (a ≡ b) × (kept ≡ kept') × (after ≡ after')
 one-file-write image layout buffer p q =
-    (same (writes-answer image layout buffer p) (writes-answer image layout buffer q), same (p .keeps) (q .keeps), same (p .leaves) (q .leaves))
+    (same (file-answer image layout buffer p) (file-answer image layout buffer q), same (p .keeps) (q .keeps), same (p .leaves) (q .leaves))

@@ -13,7 +13,7 @@ use Rattle.layout.specs.declared.Layout.{Layout}
 use Rattle.layout.specs.Layout.{layoutOf}
 use Rattle.layout.specs.Refusal.{imageRefusal}
 use Rattle.file.specs.BigEndian.{pairOf, pairBytes, wordOf, wordBytes, wordAt}
-use Rattle.file.specs.Bytes.{FittingBytes, bytesOf, headOf, fileOf, versionIn, fieldIn, layoutIn, wordCount, wordIn, wordsIn}
+use Rattle.file.specs.Bytes.{FittingBytes, bytesOf, headOf, fileOf, fileLength, versionIn, fieldIn, layoutIn, wordCount, wordIn, wordsIn}
 use Rattle.file.specs.Refusal.{longRung, frameRefusal, bodyRefusal, fileRefusal}
 use Rattle.file.proofs.Ladder.{Accepted, accepted, body-words}
 
@@ -69,7 +69,7 @@ then-none zero = refl
 then-none (suc number) = refl
 
 module _ (layout : Layout) (words : List ℕ) where
-  pub length-file : length (fileOf layout words) ≡ 9 + 4 * length words
+  pub length-file : length (fileOf layout words) ≡ fileLength (length words)
   unfolding fileOf
   length-file = omega (arith, length-bytes words)
 
@@ -94,13 +94,14 @@ module _ (layout : Layout) (words : List ℕ) where
   unfolding fileOf
   version-back = refl
 
-  frame-back : frameRefusal (fileOf layout words) ≡ longRung (9 + 4 * length words)
+  frame-back : frameRefusal (fileOf layout words) ≡ longRung (fileLength (length words))
   unfolding frameRefusal
   frame-back =
       let file = fileOf layout words in
       let field : fieldIn file ≡ length file - 5 = omega (arith, field-back, length-file) in
       let long : 9 ≤ length file = omega (arith, length-file) in
-      rw (version-back, le-ltb (length file) 9 long, eq-eqb (fieldIn file) (length file - 5) field, length-file) (then-none (longRung (9 + 4 * length words)))
+      rw (version-back, le-ltb (length file) 9 long, eq-eqb (fieldIn file) (length file - 5) field, length-file)
+      (then-none (longRung (fileLength (length words))))
 
   body-back : bodyRefusal (length (fileOf layout words) - 9) layout ≡ imageRefusal (length words) layout
   body-back =
@@ -110,9 +111,9 @@ module _ (layout : Layout) (words : List ℕ) where
       rw body (body-words (4 * length words) layout even ∙ ap (λ (n : ℕ). imageRefusal n layout) whole)
 
   -- and the file is refused as the image's layout is, but for its length
-  pub refusal-back : fileRefusal (fileOf layout words) ≡ longRung (9 + 4 * length words) then imageRefusal (length words) layout
+  pub refusal-back : fileRefusal (fileOf layout words) ≡ longRung (fileLength (length words)) then imageRefusal (length words) layout
   unfolding fileRefusal fileOf
-  refusal-back = rw (frame-back, layout-back) (ap (λ (n : ℕ). longRung (9 + 4 * length words) then n) body-back)
+  refusal-back = rw (frame-back, layout-back) (ap (λ (n : ℕ). longRung (fileLength (length words)) then n) body-back)
 
 -- ---- from a file to its image and back
 

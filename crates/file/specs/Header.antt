@@ -32,17 +32,17 @@ unfoldable pub readHeader : List ℕ → ℕ → Header
 readHeader bytes len = headerIf (readRefusal bytes len) (Image (layoutIn bytes))
 
 -- in the specification's values: this refusal, or, where it is 0, this layout; no refusal has the number 0
-pub record Names (refusal : ℕ) (named : Layout) (header : Header) : Type 0 where
+pub record HeaderTells (refusal : ℕ) (named : Layout) (header : Header) : Type 0 where
   pub number : headerNumber header ≡ refusal
   pub layout : headerLayout header ≡ ifZero refusal named (layoutOf 0 0 0)
   pub numbered : header ≡ Refused 0 → ⊥
 
 -- the promise of read_header
 abbrev pub HeaderRead : List ℕ → Header → Type 0
-HeaderRead bytes header = Names (fileRefusal bytes) (layoutIn bytes) header
+HeaderRead bytes header = HeaderTells (fileRefusal bytes) (layoutIn bytes) header
 
 -- the promise of read_file: the header; the image holds the file's words, or is as it was where anything is refused; the file stays
 pub record ReadsFile (bytes image : List ℕ) (header : Header) (kept after : List ℕ) : Type 0 where
-  pub answers : Names (readRefusal bytes (length image)) (layoutIn bytes) header
+  pub answers : HeaderTells (readRefusal bytes (length image)) (layoutIn bytes) header
   pub keeps : kept ≡ bytes
   pub leaves : after ≡ ifZero (readRefusal bytes (length image)) (wordsIn bytes) image

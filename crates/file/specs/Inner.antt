@@ -1,14 +1,15 @@
 -- What the code computes on its way: bytes put one by one. Assumes nothing.
-use Prim.Native.Nat.{ℕ, _+_, _/_, _%_, _≤_, _<_}
+use Prim.Native.Nat.{ℕ, _+_, _≤_, _<_}
 use mathlib.Core.List.{List}
 use lib.ListN.{set, getD}
 use Rattle.layout.specs.declared.Layout.{Layout}
+use Rattle.file.specs.BigEndian.{wordBytes}
 use Rattle.file.specs.Bytes.{bytesOf, headOf, fileLength}
 
 -- bytes with the four of a word put at a place
 abbrev pub withWord : ℕ → List ℕ → ℕ → List ℕ
-withWord word bytes at =
-    set (set (set (set bytes at (word / 16777216)) (at + 1) (word / 65536 % 256)) (at + 2) (word / 256 % 256)) (at + 3) (word % 256)
+withWord word bytes at = let byte = getD (wordBytes word) in
+    set (set (set (set bytes at (byte 0 0)) (at + 1) (byte 1 0)) (at + 2) (byte 2 0)) (at + 3) (byte 3 0)
 
 -- a byte of the header, and of the words after it
 abbrev pub headByte : Layout → ℕ → ℕ → ℕ

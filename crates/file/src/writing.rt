@@ -46,14 +46,14 @@ fn put_words(image: &[u32], bytes: &mut [u8])
 }
 
 // Writes the image as a file from byte 0 of the buffer on.
-pub fn write_file(image: &[u32], layout: Layout, bytes: &mut [u8]) -> Written
-    ensures { λ r. ⌜ WritesFile (now (image .entry)) layout (now (bytes .entry)) r (now (image .exit)) (now (bytes .exit)) ⌝ }
+pub fn write_file(image: &[u32], layout: Layout, buffer: &mut [u8]) -> Written
+    ensures { λ r. ⌜ WritesFile (now (image .entry)) layout (now (buffer .entry)) r (now (image .exit)) (now (buffer .exit)) ⌝ }
 {
-    let refused = check_written(image.len(), layout, bytes.len());
+    let refused = check_written(image.len(), layout, buffer.len());
     if refused != 0 {
         return Written::Refused(refused);
     }
-    put_header(layout, image.len(), bytes);
-    put_words(image, bytes);
+    put_header(layout, image.len(), buffer);
+    put_words(image, buffer);
     Written::Bytes((9 + 4 * image.len()) as u32)
 }

@@ -1,4 +1,4 @@
--- One result: two outcomes of an exported call that keep its promise are equal, the answer and every lent word. Assumes nothing.
+-- One result: two outcomes of an exported call that keep its promise are equal, the answer and every lent word and byte. Assumes nothing.
 use Prim.Native.Nat.{ℕ}
 use mathlib.Core.List.{List}
 use mathlib.Core.Path.{_≡_}

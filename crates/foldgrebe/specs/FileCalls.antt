@@ -8,7 +8,7 @@ use Rattle.layout.specs.declared.Layout.{Layout}
 use Rattle.layout.specs.Layout.{layoutOf}
 use Rattle.file.specs.Bytes.{fileOf, fileInto, layoutIn, wordsIn}
 use Rattle.file.specs.Refusal.{fileRefusal, readRefusal, writeRefusal}
-use Rattle.words.specs.Files.{layoutWords}
+use Rattle.words.specs.Layouts.{layoutWords}
 
 -- file_write: the image stays
 pub record FileWriteCall (image : List ℕ) (layout : Layout) (buffer : List ℕ) (number : ℕ) (kept after written : List ℕ) : Type 0 where

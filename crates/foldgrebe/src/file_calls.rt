@@ -10,13 +10,13 @@ pub extern "C" fn foldgrebe_file_write(
     shape: u32,
     s: u32,
     g: u32,
-    bytes: &mut [u8],
+    buffer: &mut [u8],
     written: &mut [u32; 1],
 ) -> u32
-    ensures { λ r. ⌜ FileWriteCall (now (image .entry)) (layoutOf shape s g) (now (bytes .entry)) r
-        (now (image .exit)) (now (bytes .exit)) (now (written .exit)) ⌝ }
+    ensures { λ r. ⌜ FileWriteCall (now (image .entry)) (layoutOf shape s g) (now (buffer .entry)) r
+        (now (image .exit)) (now (buffer .exit)) (now (written .exit)) ⌝ }
 {
-    let answer = file::write_file(image, Layout { shape, s, g }, bytes);
+    let answer = file::write_file(image, Layout { shape, s, g }, buffer);
     *written = words::written_words(answer);
     words::written_number(answer)
 }

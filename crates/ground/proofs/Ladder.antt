@@ -7,7 +7,8 @@ use mathlib.Core.Logic.{_⊎_, inl, inr, ⊎-elim}
 use native.Mathlib.Decide.{ℕ-discrete}
 use native.Mathlib.Nat.{lt-of-not-le}
 use native.Mathlib.Omega.{arith}
-use lib.Dec.{T, eqb}
+use borrow.Author.Tests.{ltb-true, ltb-false}
+use lib.Dec.{T, eqb, ltb}
 use Rattle.ground.specs.Ladder.{_when_else_, _then_}
 use Rattle.ground.specs.Rules.{Rule, FirstOf}
 use Rattle.ground.proofs.Bools.{right-part}
@@ -30,6 +31,12 @@ pub rung-tests : (rule : Rule) (t u : Bool)
     → Rung rule (rule .number when t else rule .number when u else 0)
 rung-tests rule true u when-true also when-false = inl (when-true refl, refl)
 rung-tests rule false u when-true also when-false = rung-test rule u also (when-false refl)
+
+-- a rule whose reason is that one number is below another
+pub rung-below : (rule : Rule) (low high : ℕ) → (low < high → rule .reason) → (rule .reason → low < high)
+    → Rung rule (rule .number when ltb low high else 0)
+rung-below rule low high make take =
+    rung-test rule (ltb low high) (λ e. make (ltb-true low high e)) (λ e r. let l = take r in let m = ltb-false low high e in omega arith)
 
 -- two tests that both hold for the rule's reason
 pub rung-both : (rule : Rule) {t u : Bool} {P Q : Type 0} → Told P t → Told Q u

@@ -1,16 +1,12 @@
--- What the calls over files answer, as words: shape, s and G; the bytes written. Assumes nothing.
+-- What the calls on files answer, as words: shape, s and G; the bytes written. Assumes nothing.
 use Prim.Native.Nat.{ℕ}
 use mathlib.Core.Path.{_≡_}
 use mathlib.Core.List.{List, [], _∷_}
-use Rattle.layout.specs.declared.Layout.{Layout}
 use Rattle.file.specs.declared.Header.{Header}
 use Rattle.file.specs.declared.Written.{Written}
 use Rattle.file.specs.Header.{headerNumber, headerLayout}
 use Rattle.file.specs.Written.{writtenNumber, writtenBytes}
-
--- the words of a layout
-abbrev pub layoutWords : Layout → List ℕ
-layoutWords layout = layout .shape ∷ layout .s ∷ layout .g ∷ []
+use Rattle.words.specs.Layouts.{layoutWords}
 
 -- the promises of header_number and header_words
 abbrev pub NumbersHeader : Header → ℕ → Type 0

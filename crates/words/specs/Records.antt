@@ -3,9 +3,9 @@ use Prim.Native.Nat.{ℕ, _+_}
 use mathlib.Core.Path.{_≡_}
 use mathlib.Core.List.{List, [], _∷_, _++_}
 use lib.ListN.{getD, take, drop}
-use Rattle.layout.specs.Layout.{layoutOf}
 use Rattle.rota.specs.Line.{places}
 use Rattle.patrol.specs.declared.Record.{Record}
+use Rattle.words.specs.Layouts.{layoutHeld, layoutWords}
 
 -- the words in front of the places, and all words of a record
 abbrev pub frontWidth : ℕ
@@ -18,13 +18,13 @@ recordWidth = frontWidth + places
 abbrev pub recordOf : List ℕ → Record
 recordOf words =
     record {
-      layout = layoutOf (getD words 0 0) (getD words 1 0) (getD words 2 0);
+      layout = layoutHeld words;
       rota = record { next = getD words 3 0; line = record { waiting = getD words 4 0; asks = take places (drop frontWidth words) } };
     }
 
 -- the words of a record: those in front, and the places
 abbrev pub frontWords : Record → List ℕ
-frontWords r = r .layout .shape ∷ r .layout .s ∷ r .layout .g ∷ r .rota .next ∷ r .rota .line .waiting ∷ []
+frontWords r = layoutWords (r .layout) ++ r .rota .next ∷ r .rota .line .waiting ∷ []
 
 abbrev pub recordWords : Record → List ℕ
 recordWords r = frontWords r ++ r .rota .line .asks

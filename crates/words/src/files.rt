@@ -1,4 +1,4 @@
-// What the calls over files answer, as words.
+// What the calls on files answer, as words.
 ghost use Rattle.words.specs.Files.{NumbersHeader, SpellsHeader, NumbersWritten, SpellsWritten};
 use super::LAYOUT_WORDS;
 use file::Header;

@@ -16,10 +16,10 @@ abbrev start : tie.After-check-written → tie.Start
 start c = c .before .before .before
 
 -- past the refusals
-passed : (c : tie.Else1) → let a = start (c .before) .args in writeRefusal (length (a .image .now)) (a .layout) (length (a .bytes .now)) ≡ 0
+passed : (c : tie.Else1) → let a = start (c .before) .args in writeRefusal (length (a .image .now)) (a .layout) (length (a .buffer .now)) ≡ 0
 passed c = sym (c .before .check-written .ensures) ∙ c .if1 .left
 
-room : (c : tie.Else1) → let a = start (c .before) .args in Small (a .layout) (length (a .image .now)) (length (a .bytes .now))
+room : (c : tie.Else1) → let a = start (c .before) .args in Small (a .layout) (length (a .image .now)) (length (a .buffer .now))
 room c = small _ _ _ (passed c)
 
 check-written-requires : tie.Need-check-written-requires
@@ -53,7 +53,7 @@ returns-2 c =
     rw (← length-file (a .layout) (a .image .now))
     (writes-bytes _ _ _ _ (passed else)
     (rw (← c .before .before .before .before .before .before .put-header .ensures) (c .before .before .put-words .ensures)
-    ∙ file-put (a .layout) (a .image .now) (a .bytes .now) (room else .fits)))
+    ∙ file-put (a .layout) (a .image .now) (a .buffer .now) (room else .fits)))
 
 pub write-file-spec : {M : Type 1} → statement M
 write-file-spec =

@@ -1,6 +1,6 @@
 -- `foldgrebe_file_layout` meets its contract: what the header says, as its number and words. Assumes nothing.
 use mathlib.Core.Path.{refl, ap, _∙_}
-use Rattle.words.specs.Files.{layoutWords}
+use Rattle.words.specs.Layouts.{layoutWords}
 use borrow.Author.Needs.{needs}
 use Rattle.foldgrebe.proofs.file_calls.foldgrebe_file_layout.Statement.{statement}
 use Rattle.foldgrebe.proofs.file_calls.foldgrebe_file_layout.Tie as tie

@@ -1,6 +1,6 @@
 -- `foldgrebe_file_read` meets its contract: what the header says, as its number and words, and the image that is left. Assumes nothing.
 use mathlib.Core.Path.{refl, ap, _∙_}
-use Rattle.words.specs.Files.{layoutWords}
+use Rattle.words.specs.Layouts.{layoutWords}
 use borrow.Author.Needs.{needs}
 use Rattle.foldgrebe.proofs.file_calls.foldgrebe_file_read.Statement.{statement}
 use Rattle.foldgrebe.proofs.file_calls.foldgrebe_file_read.Tie as tie

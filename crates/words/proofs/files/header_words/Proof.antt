@@ -2,7 +2,7 @@
 use mathlib.Core.Path.{sym, ap}
 use Rattle.file.specs.declared.Header.{Header}
 use Rattle.file.specs.Header.{headerLayout}
-use Rattle.words.specs.Files.{layoutWords}
+use Rattle.words.specs.Layouts.{layoutWords}
 use borrow.Author.Needs.{needs}
 use Rattle.words.proofs.files.header_words.Statement.{statement}
 use Rattle.words.proofs.files.header_words.Tie as tie
