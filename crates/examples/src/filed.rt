@@ -1,4 +1,4 @@
-// The calls over files: the list of such a call is the file, or the buffer for it, one byte a word.
+// The calls on files: the list of such a call is the file, or the buffer for it, one byte a word.
 use crate::answers::ANSWER_WORDS;
 use crate::answers::of_header;
 use crate::answers::of_written;

@@ -13,7 +13,7 @@ pub(crate) const IMAGE_WORDS: usize = 145;
 
 const LIST_WORDS: usize = 65;
 
-// No vector of a call over a file lends a longer image, or a longer file.
+// No vector of a call on a file lends a longer image, or a longer file.
 pub(crate) const FILED_WORDS: usize = 72;
 
 pub(crate) const FILE_BYTES: usize = 300;

@@ -1,4 +1,4 @@
--- One result: two outcomes that satisfy the promise of a function over a file are equal, answer and every lent word and byte. Assumes nothing.
+-- One result: two outcomes that satisfy the promise of a function on a file are equal, answer and every lent word and byte. Assumes nothing.
 use Prim.Native.Nat.{ℕ}
 use mathlib.Core.Path.{_≡_}
 use mathlib.Core.List.{List}

@@ -6,6 +6,9 @@ ghost use Rattle.file.specs.BigEndian.{pairOf, wordAt};
 ghost use Rattle.file.specs.Refusal.{frameRefusal, bodyRefusal, writeRefusal};
 use layout::Layout;
 
+// No file is longer.
+const LONGEST: usize = 32768;
+
 // The number that one byte holds.
 pub(crate) fn wide(byte: u8) -> u32
     ensures { λ r. ⌜ r ≡ byte ⌝ }
@@ -33,7 +36,7 @@ pub(crate) fn check_frame(bytes: &[u8]) -> u32
     ensures { λ r. ⌜ r ≡ frameRefusal (now (bytes .entry)) ⌝ }
 {
     let len = bytes.len();
-    if 32768 < len {
+    if LONGEST < len {
         return 11;
     }
     if len < 9 {
@@ -73,7 +76,7 @@ pub(crate) fn check_written(words: usize, layout: Layout, room: usize) -> u32
         return refused;
     }
     let size = 9 + 4 * words;
-    if 32768 < size {
+    if LONGEST < size {
         return 11;
     }
     if room < size {
