@@ -110,7 +110,7 @@ uint32_t foldgrebe_ask   (uint32_t record[FOLDGREBE_RECORD_WORDS], uint32_t bloc
    verdict and count, then the same of the block asked for, or zeros where none waited. Refuses 1, 2, 3, 4, 5. */
 uint32_t foldgrebe_turn  (uint32_t record[FOLDGREBE_RECORD_WORDS], uint32_t *image, size_t words, uint32_t report[FOLDGREBE_REPORT_WORDS]);
 
-/* Writes the image as a file of 9 + 4 * words bytes, from the buffer's byte 0 on, and gives its length; the bytes behind it
+/* Writes the image as a file of 9 + 4 * words bytes, from byte 0 of `file` on, and gives its length; the bytes behind it
    stay as they were, and so does the image. Refuses 1, 2, 3, 4, 11, 12. Refused, it writes no byte, and the length is 0. */
 uint32_t foldgrebe_file_write (const uint32_t *image, size_t words, uint32_t shape, uint32_t s, uint32_t g, uint8_t *file, size_t bytes,
                                uint32_t written[1]);

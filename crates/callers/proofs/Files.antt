@@ -81,12 +81,13 @@ read-refuses {bytes} {image} c =
 
 -- ---- accepted
 
-layout-told : {bytes kept words : List ℕ} {number : ℕ} → FileLayoutCall bytes number kept words → number ≡ 0 → words ≡ layoutWords (layoutIn bytes)
-layout-told c z = c .says ∙ rw (sym (c .answers) ∙ z)
+layout-told : {bytes kept words : List ℕ} {number : ℕ} → FileLayoutCall bytes number kept words → number ≡ 0
+    → (kept ≡ bytes) × (words ≡ layoutWords (layoutIn bytes))
+layout-told c z = (c .keeps, c .says ∙ rw (sym (c .answers) ∙ z))
 
 words-copied : {bytes image kept after words : List ℕ} {number : ℕ} → FileReadCall bytes image number kept after words → number ≡ 0
-    → (words ≡ layoutWords (layoutIn bytes)) × (after ≡ wordsIn bytes)
-words-copied c z = let none = sym (c .answers) ∙ z in (c .says ∙ rw none, c .leaves ∙ rw none)
+    → (kept ≡ bytes) × (words ≡ layoutWords (layoutIn bytes)) × (after ≡ wordsIn bytes)
+words-copied c z = let none = sym (c .answers) ∙ z in (c .keeps, c .says ∙ rw none, c .leaves ∙ rw none)
 
 module _ {image buffer kept after written : List ℕ} {layout : Layout} {number : ℕ}
     (c : FileWriteCall image layout buffer number kept after written) (z : number ≡ 0) where
@@ -96,10 +97,11 @@ module _ {image buffer kept after written : List ℕ} {layout : Layout} {number 
       let d = file-demand .write image layout buffer _ _ _ (wrote c) in
       d .count (d .ruled .accepted .0 (sym (wrote-number c) ∙ z))
 
-  file-wrote : CallerWrote image layout buffer after written
+  file-wrote : CallerWrote image layout buffer kept after written
   file-wrote =
       let d = file-demand .write image layout buffer _ _ _ (wrote c) in
       record {
+        keeps = c .keeps;
         count = wrote-bytes c ∙ ap (λ (count : ℕ). count ∷ []) counted;
         file = rw (← counted) (d .file (d .ruled .accepted .0 (sym (wrote-number c) ∙ z)));
         past = rw (← counted) (d .past);

@@ -1,5 +1,5 @@
--- The demands on files of a caller in C, who lends words and bytes: refused exactly for the stated reason, the file that the specification
--- names, and through it and back. Assumes nothing.
+-- The demands on files of a caller in C, who lends words and bytes: refused exactly for the stated reason; what is written is the image's file;
+-- and through it and back. Assumes nothing.
 use Prim.Native.Nat.{ℕ, _+_, _*_, _≤_}
 use mathlib.Core.Path.{_≡_}
 use mathlib.Core.List.{List, [], _∷_}
@@ -12,8 +12,9 @@ use Rattle.words.specs.Layouts.{layoutHeld, layoutWords}
 use Rattle.foldgrebe.specs.FileCalls.{FileWriteCall, FileLayoutCall, FileReadCall}
 use Rattle.callers.specs.Demands.{CallerRefusing}
 
--- an accepted write: as many bytes as are told are the image's file, and those past them stay
-pub record CallerWrote (image : List ℕ) (layout : Layout) (buffer after written : List ℕ) : Type 0 where
+-- an accepted write: as many bytes as are told are the image's file, and those past them stay, and so does the image
+pub record CallerWrote (image : List ℕ) (layout : Layout) (buffer kept after written : List ℕ) : Type 0 where
+  pub keeps : kept ≡ image
   pub count : written ≡ (9 + 4 * length image) ∷ []
   pub file : take (9 + 4 * length image) after ≡ fileOf layout image
   pub past : drop (9 + 4 * length image) after ≡ drop (9 + 4 * length image) buffer
@@ -32,13 +33,14 @@ pub record CallerFiles : Type 1 where
       → CallerRefusing (InOrder (fileRules bytes)) number ((kept ≡ bytes) × (words ≡ 0 ∷ 0 ∷ 0 ∷ []))
   pub read : {bytes image kept after words : List ℕ} {number : ℕ} → FileReadCall bytes image number kept after words
       → CallerRefusing (InOrder (readRules bytes (length image))) number ((kept ≡ bytes) × (after ≡ image) × (words ≡ 0 ∷ 0 ∷ 0 ∷ []))
-  -- accepted, what is written is the image's file, and what is told and read stands in the bytes
+  -- accepted, what is written is the image's file, and what is told and read stands in the bytes, which stay
   pub wrote : {image buffer kept after written : List ℕ} {layout : Layout} {number : ℕ} → FileWriteCall image layout buffer number kept after written
       → number ≡ 0
-      → CallerWrote image layout buffer after written
-  pub told : {bytes kept words : List ℕ} {number : ℕ} → FileLayoutCall bytes number kept words → number ≡ 0 → words ≡ layoutWords (layoutIn bytes)
+      → CallerWrote image layout buffer kept after written
+  pub told : {bytes kept words : List ℕ} {number : ℕ} → FileLayoutCall bytes number kept words → number ≡ 0
+      → (kept ≡ bytes) × (words ≡ layoutWords (layoutIn bytes))
   pub copied : {bytes image kept after words : List ℕ} {number : ℕ} → FileReadCall bytes image number kept after words → number ≡ 0
-      → (words ≡ layoutWords (layoutIn bytes)) × (after ≡ wordsIn bytes)
+      → (kept ≡ bytes) × (words ≡ layoutWords (layoutIn bytes)) × (after ≡ wordsIn bytes)
   -- so what was written is read back
   pub back : {image buffer kept after written : List ℕ} {layout : Layout} {number : ℕ} → FileWriteCall image layout buffer number kept after written
       → number ≡ 0

@@ -4,7 +4,7 @@ use mathlib.Core.Path.{_≡_, refl, sym, ap, _∙_}
 use mathlib.Core.List.{List, [], _∷_, _++_}
 use native.Mathlib.Omega.{arith}
 use borrow.Author.Tests.{lt-ltb, le-ltb}
-use lib.ListN.{length, getD, take}
+use lib.ListN.{length, getD, take, drop}
 use Rattle.shape.specs.Shape.{rows}
 use Rattle.ground.specs.Lists.{listOf}
 use Rattle.ground.proofs.Rules.{ruled}
@@ -24,7 +24,7 @@ use Rattle.file.proofs.RoundTrip.{length-file, layout-back, words-back, refusal
 use Rattle.text.specs.Page.{endToEnd}
 use Rattle.report.specs.Report.{imageReport, reportOf}
 use Rattle.report.proofs.OneResult.{one-report}
-use Rattle.demands.specs.RoundTrip.{Read, inspecting, whole, Wrote, Edge, Most, sampleImage, sampleFile, Headed}
+use Rattle.demands.specs.RoundTrip.{Read, inspecting, whole, Wrote, Edge, Most, sampleImage, sampleFile, wordedImage, Headed}
 use Rattle.demands.specs.RoundTrip.{ReadsBack, WritesAgain, PrintsSame, FileRoundTrip}
 use Rattle.demands.proofs.Files.{accepted-lines, written-file, file-writes}
 
@@ -129,6 +129,10 @@ sample : (file : List ℕ) → Wrote sampleImage (layoutOf 1 1 1) file → file 
 unfolding fileOf bytesOf
 sample file w = filed sampleImage (layoutOf 1 1 1) file w .file-of
 
+worded : (file : List ℕ) → Wrote wordedImage (layoutOf 1 1 1) file → take 4 (drop 9 file) ≡ 1 ∷ 2 ∷ 3 ∷ 4 ∷ []
+unfolding fileOf bytesOf
+worded file w = rw (filed wordedImage (layoutOf 1 1 1) file w .file-of)
+
 headed : (words : ℕ) (layout : Layout) → Headed words layout (headOf layout words)
 unfolding fileOf
 headed words layout image file e w = rw (filed image layout file w .file-of, ← e)
@@ -174,6 +178,7 @@ file-round-trip =
       again = again;
       printed = printed;
       sample = sample;
+      worded = worded;
       headed-one = headed 4800 (layoutOf 1 1 300);
       headed-two = headed 1080 (layoutOf 2 3 5);
       largest-one = edge 1 511 8176 32713 refl refl (λ room l. rw (lt-ltb room 32713 l)) (λ room. refl);

@@ -54,7 +54,7 @@ pub record Again (bytes buffer : List ℕ) (answer : Written) (after : List ℕ)
   pub same : take (length bytes) after ≡ bytes
   pub past : drop (length bytes) after ≡ drop (length bytes) buffer
 
--- the inspecting program prints of the file that was written the report of the image, and so what it prints of any file with those words
+-- the inspecting program prints of the file that was written the report of the image, and so what it prints of any file with that layout and those words
 pub record Printed (image : List ℕ) (layout : Layout) (file : List ℕ) : Type 0 where
   pub report : (out : List ℕ) (end : ℕ) (left : List ℕ) → Inspects file out end left → take end left ≡ endToEnd (imageReport image layout)
   pub same : (bytes out : List ℕ) (end : ℕ) (left : List ℕ) (end' : ℕ) (left' : List ℕ) → Read bytes layout image
@@ -92,6 +92,10 @@ sampleImage = 0 ∷ 0 ∷ 1 ∷ replicate 13 0
 abbrev pub sampleFile : List ℕ
 sampleFile = 1 ∷ 0 ∷ 0 ∷ 0 ∷ 68 ∷ 1 ∷ 1 ∷ 0 ∷ 1 ∷ replicate 11 0 ++ 1 ∷ replicate 52 0
 
+-- a word whose four bytes differ, 01020304 hex: the highest byte stands first
+abbrev pub wordedImage : List ℕ
+wordedImage = 16909060 ∷ replicate 15 0
+
 -- a header with two bytes of G, and one where shape, s and G differ; the length field has two bytes in both
 abbrev pub Headed : ℕ → Layout → List ℕ → Type 0
 Headed words layout head = (image file : List ℕ) → length image ≡ words → Wrote image layout file → take 9 file ≡ head
@@ -116,6 +120,7 @@ pub record FileRoundTrip : Type 0 where
   pub again : WritesAgain
   pub printed : PrintsSame
   pub sample : (file : List ℕ) → Wrote sampleImage (layoutOf 1 1 1) file → file ≡ sampleFile
+  pub worded : (file : List ℕ) → Wrote wordedImage (layoutOf 1 1 1) file → take 4 (drop 9 file) ≡ 1 ∷ 2 ∷ 3 ∷ 4 ∷ []
   pub headed-one : Headed 4800 (layoutOf 1 1 300) (1 ∷ 0 ∷ 0 ∷ 75 ∷ 4 ∷ 1 ∷ 1 ∷ 1 ∷ 44 ∷ [])
   pub headed-two : Headed 1080 (layoutOf 2 3 5) (1 ∷ 0 ∷ 0 ∷ 16 ∷ 228 ∷ 2 ∷ 3 ∷ 0 ∷ 5 ∷ [])
   pub largest-one : Edge 1 511 8176 32713

@@ -1,4 +1,5 @@
--- The refusals of a file in plain statements, in the order in which they are checked. Assumes nothing.
+-- The refusals of a file, and of an image that is to be written as one, in plain statements, in the order in which they are checked.
+-- Assumes nothing.
 use Prim.Native.Nat.{ℕ, _*_, _<_}
 use mathlib.Core.Path.{_≡_}
 use mathlib.Core.List.{List, [], _∷_, _++_}
