@@ -25,7 +25,10 @@ static uint32_t run_file(const uint32_t *v, uint32_t *image, uint32_t *list, uin
     uint8_t file[MOST];
     size_t words = v[IMAGE_WORDS], bytes = v[LIST_WORDS];
     uint32_t number;
-    for (size_t i = 0; i < bytes; i++) file[i] = (uint8_t)list[i];
+    for (size_t i = 0; i < bytes; i++) {
+        if (list[i] > UINT8_MAX) return UINT32_MAX;
+        file[i] = (uint8_t)list[i];
+    }
     switch (v[OPCODE]) {
     case FILE_WRITE: number = foldgrebe_file_write(image, words, v[SHAPE], v[S], v[G], file, bytes, answer + PLACE); break;
     case FILE_LAYOUT: number = foldgrebe_file_layout(file, bytes, answer + LAYOUT); break;
