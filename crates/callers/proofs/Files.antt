@@ -8,11 +8,13 @@ use Rattle.ground.specs.Rules.{Ruled, InOrder}
 use Rattle.layout.specs.declared.Layout.{Layout}
 use Rattle.layout.specs.Layout.{layoutOf}
 use Rattle.file.specs.declared.Header.{Header}
+use Rattle.file.specs.declared.Header.the-variants.{Image}
 use Rattle.file.specs.Bytes.{FittingBytes, layoutIn, wordsIn}
+use Rattle.file.specs.Refusal.{readRefusal}
 use Rattle.file.specs.Reason.{fileRules, readRules, writeRules}
-use Rattle.file.specs.Header.{headerNumber, headerLayout, headerOf, readHeader, HeaderTells, HeaderRead, ReadsFile}
+use Rattle.file.specs.Header.{headerNumber, headerLayout, headerIf, headerOf, HeaderTells, HeaderRead, ReadsFile}
 use Rattle.file.specs.Written.{writtenNumber, writtenBytes, WritesFile, writeAnswer}
-use Rattle.file.proofs.Headers.{header-read, read-tells}
+use Rattle.file.proofs.Headers.{tells-if, header-read}
 use Rattle.file.proofs.FileWrites.{file-written}
 use Rattle.words.specs.Layouts.{layoutHeld, layoutWords}
 use Rattle.foldgrebe.specs.FileCalls.{FileWriteCall, FileLayoutCall, FileReadCall}
@@ -51,12 +53,16 @@ module _ {bytes : List ℕ} {number : ℕ} {kept words : List ℕ} (c : FileLayo
   told-so : (number ≡ headerNumber (headerOf bytes)) × (words ≡ layoutWords (headerLayout (headerOf bytes)))
   told-so = tells (headerOf bytes) (told bytes) (c .answers) (c .says)
 
-module _ {bytes image : List ℕ} {number : ℕ} {kept after words : List ℕ} (c : FileReadCall bytes image number kept after words) where
-  read : ReadsFile bytes image (readHeader bytes (length image)) kept after
-  read = record { answers = read-tells bytes (length image) (readHeader bytes (length image)) refl; keeps = c .keeps; leaves = c .leaves }
+-- what reading a file to an image answers
+abbrev readOf : List ℕ → List ℕ → Header
+readOf bytes image = headerIf (readRefusal bytes (length image)) (Image (layoutIn bytes))
 
-  read-so : (number ≡ headerNumber (readHeader bytes (length image))) × (words ≡ layoutWords (headerLayout (readHeader bytes (length image))))
-  read-so = tells (readHeader bytes (length image)) (read .answers) (c .answers) (c .says)
+module _ {bytes image : List ℕ} {number : ℕ} {kept after words : List ℕ} (c : FileReadCall bytes image number kept after words) where
+  read : ReadsFile bytes image (readOf bytes image) kept after
+  read = record { answers = tells-if (readRefusal bytes (length image)) (layoutIn bytes); keeps = c .keeps; leaves = c .leaves }
+
+  read-so : (number ≡ headerNumber (readOf bytes image)) × (words ≡ layoutWords (headerLayout (readOf bytes image)))
+  read-so = tells (readOf bytes image) (read .answers) (c .answers) (c .says)
 
 -- ---- refusals
 
@@ -132,7 +138,7 @@ file-again : {bytes lent kept image words : List ℕ} {number : ℕ} → Fitting
     → FileWriteCall image (layoutHeld words) buffer number' kept' after written
     → (number' ≡ 0) × (written ≡ length bytes ∷ []) × (take (length bytes) after ≡ bytes) × (drop (length bytes) after ≡ drop (length bytes) buffer)
 file-again {bytes} {lent} {kept} {image} {words} fits c z {buffer} l w =
-    let named : layoutHeld words ≡ headerLayout (readHeader bytes (length lent)) = ap layoutHeld (read-so c .1) in
+    let named : layoutHeld words ≡ headerLayout (readOf bytes lent) = ap layoutHeld (read-so c .1) in
     let r : Read bytes (layoutHeld words) image = rw named (whole _ lent kept image (read c) (sym (read-so c .0) ∙ z)) in
     let a = file-round-trip .again bytes (layoutHeld words) image fits r buffer _ _ _ l (wrote w) in
     (wrote-number w ∙ a .accepted, wrote-bytes w ∙ ap (λ (count : ℕ). count ∷ []) (a .count), a .same, a .past)

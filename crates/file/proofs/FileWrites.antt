@@ -38,9 +38,10 @@ module _ (image : List ℕ) (layout : Layout) (buffer : List ℕ) where
   writes-refused (suc number) e ne =
       record { number = e; bytes = rw (← e); keeps = refl; leaves = rw (← e); numbered = λ q. let z : suc number ≡ 0 = cc in omega arith }
 
-  pub writes-bytes : (left : List ℕ) → refusal ≡ 0 → left ≡ fileInto layout image buffer
-      → WritesFile image layout buffer (Bytes (length (fileOf layout image))) image left
-  writes-bytes left e l = record { number = sym e; bytes = rw e; keeps = refl; leaves = l ∙ rw e; numbered = λ q. let z : _≡_ {A = ℕ} 0 1 = cc in omega arith }
+  pub writes-bytes : (count : ℕ) (left : List ℕ) → refusal ≡ 0 → count ≡ length (fileOf layout image) → left ≡ fileInto layout image buffer
+      → WritesFile image layout buffer (Bytes count) image left
+  writes-bytes count left e n l =
+      record { number = sym e; bytes = n ∙ rw e; keeps = refl; leaves = l ∙ rw e; numbered = λ q. let z : _≡_ {A = ℕ} 0 1 = cc in omega arith }
 
   -- the answer by its definition, and what is left, meet the promise, and are what it leaves
   pub file-written : WritesFile image layout buffer (writeAnswer image layout buffer) image (after refusal)
@@ -48,7 +49,7 @@ module _ (image : List ℕ) (layout : Layout) (buffer : List ℕ) where
   file-written = by refusal refl
     where
       by : (n : ℕ) → n ≡ refusal → WritesFile image layout buffer (ifZero n (Bytes (length (fileOf layout image))) (Refused n)) image (after n)
-      by zero e = writes-bytes _ (sym e) refl
+      by zero e = writes-bytes _ _ (sym e) refl refl
       by (suc n) e = writes-refused (suc n) e (λ z. omega arith)
 
   pub file-answer : {answer : Written} {kept left : List ℕ} → WritesFile image layout buffer answer kept left → answer ≡ writeAnswer image layout buffer

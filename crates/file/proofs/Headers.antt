@@ -8,8 +8,8 @@ use Rattle.layout.specs.declared.Layout.{Layout}
 use Rattle.file.specs.declared.Header.{Header}
 use Rattle.file.specs.declared.Header.the-variants.{Refused, Image}
 use Rattle.file.specs.Bytes.{layoutIn}
-use Rattle.file.specs.Refusal.{fileRefusal, readRefusal}
-use Rattle.file.specs.Header.{headerNumber, headerLayout, headerIf, headerOf, readHeader, HeaderTells, HeaderRead}
+use Rattle.file.specs.Refusal.{fileRefusal}
+use Rattle.file.specs.Header.{headerNumber, headerLayout, headerIf, headerOf, HeaderTells, HeaderRead}
 
 pub headers-told : (a b : Header) → (a ≡ Refused 0 → ⊥) → (b ≡ Refused 0 → ⊥) → headerNumber a ≡ headerNumber b → headerLayout a ≡ headerLayout b → a ≡ b
 headers-told (Refused m) (Refused n) p q e l = ap Refused e
@@ -19,7 +19,7 @@ headers-told (Image layout) (Image other) p q e l = ap Image l
 
 -- ---- the header by its definition meets the promise, and is what it leaves
 
-tells-if : (refusal : ℕ) (named : Layout) → HeaderTells refusal named (headerIf refusal (Image named))
+pub tells-if : (refusal : ℕ) (named : Layout) → HeaderTells refusal named (headerIf refusal (Image named))
 tells-if zero named = record { number = refl; layout = refl; numbered = λ q. let z : _≡_ {A = ℕ} 0 1 = cc in omega arith }
 tells-if (suc n) named = record { number = refl; layout = refl; numbered = λ q. let z : suc n ≡ 0 = cc in omega arith }
 
@@ -36,11 +36,3 @@ module _ (bytes : List ℕ) where
   pub header-read : (header : Header) → header ≡ headerOf bytes → HeaderRead bytes header
   unfolding headerOf
   header-read header e = rw e (tells-if (fileRefusal bytes) (layoutIn bytes))
-
-  pub read-tells : (len : ℕ) (header : Header) → header ≡ readHeader bytes len → HeaderTells (readRefusal bytes len) (layoutIn bytes) header
-  unfolding readHeader
-  read-tells len header e = rw e (tells-if (readRefusal bytes len) (layoutIn bytes))
-
-  pub read-is : (len : ℕ) (header : Header) → HeaderTells (readRefusal bytes len) (layoutIn bytes) header → header ≡ readHeader bytes len
-  unfolding readHeader
-  read-is len header = tells-is (readRefusal bytes len) (layoutIn bytes) header

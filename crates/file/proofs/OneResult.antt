@@ -7,10 +7,11 @@ use Rattle.ground.proofs.Same.{same}
 use Rattle.layout.specs.declared.Layout.{Layout}
 use Rattle.file.specs.declared.Header.{Header}
 use Rattle.file.specs.declared.Written.{Written}
-use Rattle.file.specs.Bytes.{CountsFileWords, ReadsWords}
+use Rattle.file.specs.Bytes.{layoutIn, CountsFileWords, ReadsWords}
+use Rattle.file.specs.Refusal.{readRefusal}
 use Rattle.file.specs.Header.{HeaderRead, ReadsFile}
 use Rattle.file.specs.Written.{WritesFile}
-use Rattle.file.proofs.Headers.{header-is, read-is}
+use Rattle.file.proofs.Headers.{header-is, tells-is}
 use Rattle.file.proofs.FileWrites.{file-answer}
 
 pub one-header : (bytes : List ℕ) {a b : Header} → HeaderRead bytes a → HeaderRead bytes b → a ≡ b
@@ -27,7 +28,7 @@ pub one-file-read : (bytes image : List ℕ) {a b : Header} {kept kept' after af
     → ReadsFile bytes image b kept' after'
     → (a ≡ b) × (kept ≡ kept') × (after ≡ after')
 one-file-read bytes image {a} {b} p q =
-    let header = read-is bytes (length image) in
+    let header = tells-is (readRefusal bytes (length image)) (layoutIn bytes) in
     (same (header a (p .answers)) (header b (q .answers)), same (p .keeps) (q .keeps), same (p .leaves) (q .leaves))
 
 pub one-file-write : (image : List ℕ) (layout : Layout) (buffer : List ℕ) {a b : Written} {kept kept' after after' : List ℕ}

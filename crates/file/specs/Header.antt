@@ -27,10 +27,6 @@ headerIf number header = ifZero number header (Refused number)
 unfoldable pub headerOf : List ℕ → Header
 headerOf bytes = headerIf (fileRefusal bytes) (Image (layoutIn bytes))
 
--- what reading the file into an image of some length answers
-unfoldable pub readHeader : List ℕ → ℕ → Header
-readHeader bytes len = headerIf (readRefusal bytes len) (Image (layoutIn bytes))
-
 -- in the specification's values: this refusal, or, where it is 0, this layout; no refusal has the number 0
 pub record HeaderTells (refusal : ℕ) (named : Layout) (header : Header) : Type 0 where
   pub number : headerNumber header ≡ refusal

@@ -1,5 +1,6 @@
 -- `file::reading::read_file` meets its contract: refused as a file, refused for the image's length, or read. Assumes nothing.
 use mathlib.Core.Path.{_≡_, sym, _∙_}
+use native.Mathlib.Omega.{arith}
 use borrow.Author.Needs.{needs}
 use Rattle.file.specs.declared.Header.the-variants.{Image}
 use Rattle.file.specs.Header.{headerOf}
@@ -32,7 +33,7 @@ word-count-requires : tie.Need-word-count-requires
 word-count-requires c κs = search needs
 
 returns : tie.Need-returns
-returns c = reads-other _ _ _ (header (c .before)) (λ e. c .if1 .taken (e ∙ sym (c .before .word-count .ensures)))
+returns c = reads-other _ _ _ (header (c .before)) (λ e. omega (arith, c .if1 .taken, e, c .before .word-count .ensures))
 
 read-words-requires : tie.Need-read-words-requires
 read-words-requires c κs = search needs
@@ -47,7 +48,7 @@ returns-3 : tie.Need-returns-3
 returns-3 c =
     let copied = c .before .before in
     let same = copied .before .before in
-    reads-words _ _ _ (header (same .before)) _ (same .if1 .left ∙ same .before .word-count .ensures) (copied .read-words .ensures)
+    reads-words _ _ _ (header (same .before)) _ (omega (arith, same .if1 .left, same .before .word-count .ensures)) (copied .read-words .ensures)
 
 pub read-file-spec : {M : Type 1} → statement M
 read-file-spec =

@@ -1,6 +1,7 @@
 -- `file::writing::put_header` meets its contract: nine bytes, each in its place. Assumes nothing.
-use Prim.Native.Nat.{_+_, _*_}
-use mathlib.Core.Path.{_≡_, refl, _∙_}
+use Prim.Native.Nat.{ℕ, _+_, _*_}
+use mathlib.Core.Path.{_≡_, refl, ap, _∙_}
+use mathlib.Core.List.{List}
 use native.Mathlib.Omega.{arith}
 use borrow.Author.Needs.{needs}
 use lib.ListN.{set, length-set}
@@ -18,7 +19,10 @@ put : (c : tie.After-slice-known3)
     ≡ withWord (start c .args .layout .shape * 16777216 + start c .args .layout .s * 65536 + start c .args .layout .g)
     (withWord (4 + 4 * start c .args .words) (set (start c .args .bytes .now) 0 1) 1)
     5
-put c = rw (← c .before .before .before .before .before .before .before .before .before .put-word .ensures) (c .before .before .put-word2 .ensures)
+put c =
+    c .before .before .put-word2 .ensures
+    ∙ ap (λ (bytes : List ℕ). withWord (start c .args .layout .shape * 16777216 + start c .args .layout .s * 65536 + start c .args .layout .g) bytes 5)
+    (c .before .before .before .before .before .before .before .before .before .put-word .ensures)
 
 slice-write-bytes : tie.Need-slice-write-bytes
 slice-write-bytes c = search needs

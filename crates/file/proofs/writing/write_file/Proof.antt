@@ -50,10 +50,9 @@ returns-2 : tie.Need-returns-2
 returns-2 c =
     let else = c .before .before .before .before .before .before .before .before in
     let a = start (else .before) .args in
-    rw (← length-file (a .layout) (a .image .now))
-    (writes-bytes _ _ _ _ (passed else)
+    writes-bytes _ _ _ _ _ (passed else) (sym (length-file (a .layout) (a .image .now)))
     (rw (← c .before .before .before .before .before .before .put-header .ensures) (c .before .before .put-words .ensures)
-    ∙ file-put (a .layout) (a .image .now) (a .buffer .now) (room else .fits)))
+    ∙ file-put (a .layout) (a .image .now) (a .buffer .now) (room else .fits))
 
 pub write-file-spec : {M : Type 1} → statement M
 write-file-spec =
