@@ -50,7 +50,8 @@ returns-2 : tie.Need-returns-2
 returns-2 c =
     let else = c .before .before .before .before .before .before .before .before in
     let a = start (else .before) .args in
-    writes-bytes _ _ _ _ _ (passed else) (sym (length-file (a .layout) (a .image .now)))
+    let size = length-file (a .layout) (a .image .now) in
+    writes-bytes _ _ _ _ _ (passed else) (omega arith)
     (rw (← c .before .before .before .before .before .before .put-header .ensures) (c .before .before .put-words .ensures)
     ∙ file-put (a .layout) (a .image .now) (a .buffer .now) (room else .fits))
 
