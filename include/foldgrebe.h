@@ -24,7 +24,7 @@
      9  the version of the file is not 1
     10  the file has fewer than 9 bytes, or its length field is not the number of bytes after byte 4
     11  the file has, or would have, above 32768 bytes
-    12  the buffer is shorter than the file
+    12  the buffer that is lent for a file is shorter than the file
    A refused call sets verdict, place, report, written and layout to zeros and alters nothing else; only a refused format
    also gives a record of zeros.
 

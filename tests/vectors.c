@@ -19,7 +19,7 @@ static uint32_t word(void)
     return (uint32_t)b[0] << 24 | (uint32_t)b[1] << 16 | (uint32_t)b[2] << 8 | b[3];
 }
 
-/* A list of bytes, one a word, is lent as bytes, and told as words again. */
+/* A list of bytes, one a word, is lent as bytes, and told as words again; a word that is no byte agrees with nothing. */
 static uint32_t run_file(const uint32_t *v, uint32_t *image, uint32_t *list, uint32_t answer[])
 {
     uint8_t file[MOST];

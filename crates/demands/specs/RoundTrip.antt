@@ -84,15 +84,16 @@ Most shape most =
     → WritesFile image layout buffer answer kept after
     → (writtenNumber answer ≡ 11) ↔ (most < blocks layout)
 
--- ---- the specification's own file: shape 1, s = 1, G = 1, row 3 is 1 and the others are 0; 73 bytes
+-- ---- worked files
 
+-- the specification's own: shape 1, s = 1, G = 1, row 3 is 1 and the others are 0; 73 bytes
 abbrev pub sampleImage : List ℕ
 sampleImage = 0 ∷ 0 ∷ 1 ∷ replicate 13 0
 
 abbrev pub sampleFile : List ℕ
 sampleFile = 1 ∷ 0 ∷ 0 ∷ 0 ∷ 68 ∷ 1 ∷ 1 ∷ 0 ∷ 1 ∷ replicate 11 0 ++ 1 ∷ replicate 52 0
 
--- a word whose four bytes differ, 01020304 hex: the highest byte stands first
+-- its first word is 01020304 hex, four bytes that differ: in the file the highest stands first
 abbrev pub wordedImage : List ℕ
 wordedImage = 16909060 ∷ replicate 15 0
 

@@ -52,7 +52,8 @@ module _ (bytes image : List ℕ) where
         let words = rowsOf (layoutIn bytes) * blocks (layoutIn bytes) in
         leaves-by 4 _ _ (rw (passed, ne-eqb (length image) words (λ e. ne (e ∙ sym (words-exact bytes passed))))) refl refl
 
-    pub reads-words : (left : List ℕ) → length image ≡ wordCount (length bytes) → left ≡ wordsInto bytes image → ReadsFile bytes image (Image layout) bytes left
+    pub reads-words : (left : List ℕ) → length image ≡ wordCount (length bytes) → left ≡ wordsInto bytes image
+        → ReadsFile bytes image (Image layout) bytes left
     unfolding readRefusal
     reads-words left e l =
         leaves-by 0 _ _ (rw (passed, eq-eqb (length image) (rowsOf (layoutIn bytes) * blocks (layoutIn bytes)) (e ∙ words-exact bytes passed)))
