@@ -39,23 +39,34 @@ static void measure_write(void)
     expect(number == 0, "write");
 }
 
-static void measure_visit(const char *call, uint32_t says, uint32_t count)
+static void measure_visit(const char *call, uint32_t says, uint32_t count, uint32_t beyond)
 {
     uint32_t number;
     COUNTED(next_case(call), number = foldgrebe_visit(image, words, shape, s, GROUPS, block, verdict));
-    expect(number == 0 && verdict[FOLDGREBE_VERDICT_NUMBER] == says && verdict[FOLDGREBE_VERDICT_COUNT] == count, call);
+    expect(number == 0 && verdict[FOLDGREBE_VERDICT_NUMBER] == says, call);
+    expect(verdict[FOLDGREBE_VERDICT_COUNT] == count && verdict[FOLDGREBE_VERDICT_BEYOND] == beyond, call);
 }
+
+/* Lane 9 even with a sum, lane 4 of shape 2 odd with a sum of 72. */
+static void lose(void) { flip(3, 9), flip(5, 9); }
+static void lose_beyond(void) { flip(1, 4), flip(9, 4), flip(64, 4); }
 
 static void measure_visits(void)
 {
-    measure_visit("visit-clean", FOLDGREBE_CLEAN, 0);
+    measure_visit("visit-clean", FOLDGREBE_CLEAN, 0, 0);
     flip(7, 11);
-    measure_visit("visit-one-flip", FOLDGREBE_MENDED, 1);
+    measure_visit("visit-one-flip", FOLDGREBE_MENDED, 1, 0);
     for (uint32_t lane = 0; lane < 32; lane++) flip(lane % rows + 1, lane);
-    measure_visit("visit-32-flips", FOLDGREBE_MENDED, 32);
-    flip(3, 9), flip(5, 9);
-    measure_visit("visit-lost", FOLDGREBE_LOST, 1);
-    flip(3, 9), flip(5, 9);
+    measure_visit("visit-32-flips", FOLDGREBE_MENDED, 32, 0);
+    lose();
+    measure_visit("visit-lost", FOLDGREBE_LOST, 1, 0);
+    if (shape == 2) {
+        lose_beyond();
+        measure_visit("visit-lost-both", FOLDGREBE_LOST, 1, 1);
+        lose();
+        measure_visit("visit-lost-beyond", FOLDGREBE_LOST, 0, 1);
+        lose_beyond();
+    } else lose();
 }
 
 static void measure_read(const char *call, uint32_t says)
@@ -75,9 +86,9 @@ static void measure_reads(void)
     for (uint32_t lane = 0; lane < 32; lane++) flip(lane % rows + 1, lane);
     measure_read("read-32-flips", FOLDGREBE_MENDED);
     for (uint32_t lane = 0; lane < 32; lane++) flip(lane % rows + 1, lane);
-    flip(3, 9), flip(5, 9);
+    lose();
     measure_read("read-lost", FOLDGREBE_LOST);
-    flip(3, 9), flip(5, 9);
+    lose();
 }
 
 static void measure_turn(const char *call, uint32_t asks)

@@ -51,9 +51,12 @@ typedef struct { uint32_t row[MOST_ROWS]; } gathered;
 /* The digits of every lane's sum, and the lanes whose parity is odd. */
 typedef struct { uint32_t digit[MOST_DIGITS], odd; } findings;
 
-typedef struct { uint32_t verdict, count; } outcome;
+typedef struct { uint32_t verdict, count, beyond; } outcome;
 
-INLINE void put_verdict(uint32_t *words, outcome o) { words[FOLDGREBE_VERDICT_NUMBER] = o.verdict, words[FOLDGREBE_VERDICT_COUNT] = o.count; }
+INLINE void put_verdict(uint32_t *words, outcome o)
+{
+    words[FOLDGREBE_VERDICT_NUMBER] = o.verdict, words[FOLDGREBE_VERDICT_COUNT] = o.count, words[FOLDGREBE_VERDICT_BEYOND] = o.beyond;
+}
 
 INLINE unsigned rows_of(uint32_t shape) { return shape == 1 ? 16 : 72; }
 INLINE unsigned data_of(uint32_t shape) { return shape == 1 ? 11 : 64; }
@@ -132,11 +135,13 @@ INLINE uint32_t any_digit(const findings *f, uint32_t shape)
     return any;
 }
 
-/* Even with a sum; in shape 2 also odd with a sum of 72 or more: 64 and at least one of 8, 16, 32. */
-INLINE uint32_t lost_lanes(const findings *f, uint32_t shape)
+/* Even with a sum. */
+INLINE uint32_t lost_even(const findings *f, uint32_t shape) { return any_digit(f, shape) & ~f->odd; }
+
+/* In shape 2 also odd with a sum of 72 or more: 64 and at least one of 8, 16, 32. */
+INLINE uint32_t lost_beyond(const findings *f, uint32_t shape)
 {
-    uint32_t even = any_digit(f, shape) & ~f->odd;
-    return shape == 1 ? even : even | (f->odd & f->digit[6] & (f->digit[5] | f->digit[4] | f->digit[3]));
+    return shape == 1 ? 0 : f->odd & f->digit[6] & (f->digit[5] | f->digit[4] | f->digit[3]);
 }
 
 /* The row that a mendable lane wants flipped, counted from 0; a sum of 0 stands for the last row. */
@@ -159,10 +164,10 @@ INLINE void mend(const findings *f, uint32_t *at, size_t stride, uint32_t shape)
 
 INLINE outcome decide(const findings *f, uint32_t shape)
 {
-    if ((any_digit(f, shape) | f->odd) == 0) return (outcome){ FOLDGREBE_CLEAN, 0 };
-    uint32_t lost = lost_lanes(f, shape);
-    if (lost) return (outcome){ FOLDGREBE_LOST, ones(lost) };
-    return (outcome){ FOLDGREBE_MENDED, ones(f->odd) };
+    if ((any_digit(f, shape) | f->odd) == 0) return (outcome){ FOLDGREBE_CLEAN, 0, 0 };
+    uint32_t even = lost_even(f, shape), beyond = lost_beyond(f, shape);
+    if (even | beyond) return (outcome){ FOLDGREBE_LOST, ones(even), ones(beyond) };
+    return (outcome){ FOLDGREBE_MENDED, ones(f->odd), 0 };
 }
 
 INLINE outcome visit_as(uint32_t *at, uint32_t s, uint32_t shape)

@@ -1,7 +1,8 @@
 /* Foldgrebe: keeps a memory image of 32-bit words in blocks that mend themselves.
 
    A block holds 11 data words in 16 rows (shape 1) or 64 data words in 72 rows (shape 2); a row is one word. Bit i of
-   every row is lane i. One flipped bit in each lane is mended; two in one lane are noticed, and the block is then lost.
+   every row is lane i. One flipped bit in each lane is mended; two in one lane are noticed, and the block is then lost,
+   with the lanes of each of the two kinds of lost counted.
    An image has N = s * g blocks (s from 1 to 16, N at most 4096) and exactly rows * N words. Blocks are numbered from 0.
    Neighbouring words belong to s different blocks, so that a hit on up to s words in a row harms s blocks a little.
 
@@ -49,23 +50,27 @@
 extern "C" {
 #endif
 
-/* A verdict's words, which a visit and a read give: what was found, and how many bits or lanes. */
+/* A verdict's words, which a visit and a read give: what was found, and how many bits or lanes of the first kind, and of the second. */
 #define FOLDGREBE_VERDICT_NUMBER 0
 #define FOLDGREBE_VERDICT_COUNT  1
-#define FOLDGREBE_VERDICT_WORDS  2
+#define FOLDGREBE_VERDICT_BEYOND 2
+#define FOLDGREBE_VERDICT_WORDS  3
 
-/* A verdict's number. 0 is no verdict: the call was refused, or a turn had no ask to serve. */
-#define FOLDGREBE_CLEAN  1   /* count 0 */
-#define FOLDGREBE_MENDED 2   /* count: the bits changed, from 1 to 32 */
-#define FOLDGREBE_LOST   3   /* count: the lanes lost, from 1 to 32 */
+/* A verdict's number. 0 is no verdict: the call was refused, or a turn had no ask to serve; both counts are then 0. */
+#define FOLDGREBE_CLEAN  1   /* count and beyond 0 */
+#define FOLDGREBE_MENDED 2   /* count: the bits changed, from 1 to 32; beyond 0 */
+#define FOLDGREBE_LOST   3   /* count: the lanes lost with even parity; beyond: those with an odd sum beyond the rows, 0 in shape 1; together 1 to 32 */
+/* To a workshop: even lanes are a reboot, the memory may stay; lanes beyond are odd damage, three flips or more in a lane, and the memory is swapped. */
 
-/* A turn's report: the patrol's block and its verdict, then the block asked for and its verdict. */
+/* A turn's report: the patrol's block and its verdict's words, then the block asked for and its verdict's words. */
 #define FOLDGREBE_REPORT_BLOCK       0
 #define FOLDGREBE_REPORT_VERDICT     1   /* where that block's verdict begins, so also the place of its number */
 #define FOLDGREBE_REPORT_COUNT       (FOLDGREBE_REPORT_VERDICT + FOLDGREBE_VERDICT_COUNT)
+#define FOLDGREBE_REPORT_BEYOND      (FOLDGREBE_REPORT_VERDICT + FOLDGREBE_VERDICT_BEYOND)
 #define FOLDGREBE_REPORT_ASK_BLOCK   (FOLDGREBE_REPORT_VERDICT + FOLDGREBE_VERDICT_WORDS)
 #define FOLDGREBE_REPORT_ASK_VERDICT (FOLDGREBE_REPORT_ASK_BLOCK + 1)
 #define FOLDGREBE_REPORT_ASK_COUNT   (FOLDGREBE_REPORT_ASK_VERDICT + FOLDGREBE_VERDICT_COUNT)
+#define FOLDGREBE_REPORT_ASK_BEYOND  (FOLDGREBE_REPORT_ASK_VERDICT + FOLDGREBE_VERDICT_BEYOND)
 #define FOLDGREBE_REPORT_WORDS       (FOLDGREBE_REPORT_ASK_VERDICT + FOLDGREBE_VERDICT_WORDS)
 
 /* The patrol's record, which format makes and ask and turn move on; the caller keeps it and need not look into it. */
@@ -95,7 +100,7 @@ uint32_t foldgrebe_format(uint32_t *image, size_t words, uint32_t shape, uint32_
 uint32_t foldgrebe_write (uint32_t *image, size_t words, uint32_t shape, uint32_t s, uint32_t g, uint32_t block, const uint32_t *data, size_t data_words);
 
 /* Copies the block's mended data to the buffer (11 or 64 words); where it is lost the buffer stays as it was. The image
-   is not altered: the verdict and count are what a visit would say. Refuses 1, 2, 3, 4, 6, 7. */
+   is not altered: verdict and counts are what a visit would say. Refuses 1, 2, 3, 4, 6, 7. */
 uint32_t foldgrebe_read  (const uint32_t *image, size_t words, uint32_t shape, uint32_t s, uint32_t g, uint32_t block, uint32_t *buffer,
                          size_t buffer_words, uint32_t verdict[FOLDGREBE_VERDICT_WORDS]);
 
@@ -107,7 +112,7 @@ uint32_t foldgrebe_visit (uint32_t *image, size_t words, uint32_t shape, uint32_
 uint32_t foldgrebe_ask   (uint32_t record[FOLDGREBE_RECORD_WORDS], uint32_t block, uint32_t place[1]);
 
 /* Visits the next block, then the block at place 1 if one waits, and moves the record on. The report has the block, its
-   verdict and count, then the same of the block asked for, or zeros where none waited. Refuses 1, 2, 3, 4, 5. */
+   verdict and counts, then the same of the block asked for, or zeros where none waited. Refuses 1, 2, 3, 4, 5. */
 uint32_t foldgrebe_turn  (uint32_t record[FOLDGREBE_RECORD_WORDS], uint32_t *image, size_t words, uint32_t report[FOLDGREBE_REPORT_WORDS]);
 
 /* Writes the image as a file of 9 + 4 * words bytes, from byte 0 of `file` on, and gives its length; the bytes behind it

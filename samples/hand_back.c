@@ -41,7 +41,7 @@ static void visit(uint32_t block)
     if (verdict[FOLDGREBE_VERDICT_NUMBER] == FOLDGREBE_MENDED)
         fprintf(stderr, "block %u mended %u\n", block, verdict[FOLDGREBE_VERDICT_COUNT]);
     if (verdict[FOLDGREBE_VERDICT_NUMBER] == FOLDGREBE_LOST)
-        fprintf(stderr, "block %u lost %u, stays as it is\n", block, verdict[FOLDGREBE_VERDICT_COUNT]);
+        fprintf(stderr, "block %u lost %u %u, stays as it is\n", block, verdict[FOLDGREBE_VERDICT_COUNT], verdict[FOLDGREBE_VERDICT_BEYOND]);
 }
 
 /* The file's own room is free again, and is long enough, for the image has as many words as it had. */

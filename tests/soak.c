@@ -60,11 +60,12 @@ static void rain(uint32_t drops)
     }
 }
 
-/* A verdict must be clean, or mended by as many bits as lanes were flipped. */
+/* A verdict must be clean, or mended by as many bits as lanes were flipped; the count of lost lanes beside it 0. */
 static void expect_verdict(uint32_t block, const uint32_t verdict[FOLDGREBE_VERDICT_WORDS])
 {
     uint32_t says = flipped[block] ? FOLDGREBE_MENDED : FOLDGREBE_CLEAN, count = ones(flipped[block]);
-    expect(verdict[FOLDGREBE_VERDICT_NUMBER] == says && verdict[FOLDGREBE_VERDICT_COUNT] == count, "wrong verdict or count", block);
+    expect(verdict[FOLDGREBE_VERDICT_NUMBER] == says && verdict[FOLDGREBE_VERDICT_COUNT] == count && verdict[FOLDGREBE_VERDICT_BEYOND] == 0,
+           "wrong verdict or count", block);
 }
 
 static void read_one(void)

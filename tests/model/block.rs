@@ -1,14 +1,21 @@
 //! A block: 32 lanes side by side. Its rows are words; row p is `block[p - 1]`.
 
-use crate::lane::{self, Finding, Lane};
+use crate::lane::{self, Finding, Kind, Lane};
 
 pub const LANES: usize = 32;
 
-/// What a visit says: the verdict (1 clean, 2 mended, 3 lost, 0 none) and its count.
+/// What a visit says: the verdict (1 clean, 2 mended, 3 lost, 0 none), and its counts: bits mended and 0, or the lanes lost of each kind.
 #[derive(Clone, Copy, PartialEq, Debug, Default)]
 pub struct Outcome {
     pub verdict: u32,
     pub count: u32,
+    pub beyond: u32,
+}
+
+impl Outcome {
+    pub fn words(self) -> [u32; 3] {
+        [self.verdict, self.count, self.beyond]
+    }
 }
 
 pub fn rows(shape: u32) -> usize {
@@ -85,22 +92,23 @@ pub fn data_of(shape: u32, block: &[u32]) -> Vec<u32> {
 /// What a visit says of a block, and the block that it leaves.
 pub fn mended(block: &[u32]) -> (Outcome, Vec<u32>) {
     let mut after = block.to_vec();
-    let mut lost = 0;
+    let (mut even, mut beyond) = (0, 0);
     for i in 0..LANES {
         let mut lane = lane_of(block, i);
         match lane::search(&lane) {
             Finding::Valid => {}
             Finding::Flipped(row) => lane[row] = !lane[row],
-            Finding::Lost => lost += 1,
+            Finding::Lost(Kind::Even) => even += 1,
+            Finding::Lost(Kind::Beyond) => beyond += 1,
         }
         put_lane(&mut after, i, &lane);
     }
-    if lost > 0 {
-        return (Outcome { verdict: 3, count: lost }, block.to_vec());
+    if even + beyond > 0 {
+        return (Outcome { verdict: 3, count: even, beyond }, block.to_vec());
     }
     let count = bits_changed(block, &after);
     let verdict = if count == 0 { 1 } else { 2 };
-    (Outcome { verdict, count }, after)
+    (Outcome { verdict, count, beyond: 0 }, after)
 }
 
 fn bits_changed(before: &[u32], after: &[u32]) -> u32 {

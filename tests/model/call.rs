@@ -82,21 +82,40 @@ pub struct Lent {
     pub file: Vec<u8>,
 }
 
-/// The number; block, verdict, count twice over (a turn's report; other calls use the first three, for a file shape, s and G);
+/// The words of a report: block, verdict and its two counts, and the same of the ask.
+pub type Report = [u32; 8];
+
+/// Where a report has the verdict of its first block, then the ask's block and its verdict.
+pub const VERDICT: usize = 1;
+pub const ASK: usize = 4;
+pub const ASK_VERDICT: usize = ASK + VERDICT;
+
+/// The number; a turn's report (a visit or a read uses its first verdict, a file the first three words, for shape, s and G);
 /// the place of an ask, or the bytes that a file has.
 #[derive(Clone, Default, Debug)]
 pub struct Answer {
     pub number: u32,
-    pub report: [u32; 6],
+    pub report: Report,
     pub place: u32,
 }
 
-fn outcome_answer(number: u32, outcome: Outcome) -> Answer {
-    Answer { number, report: [0, outcome.verdict, outcome.count, 0, 0, 0], place: 0 }
+/// A report of these two visits, each a block and what is said of it.
+fn report_of(own: (u32, Outcome), asked: (u32, Outcome)) -> Report {
+    let mut report = Report::default();
+    (report[0], report[ASK]) = (own.0, asked.0);
+    report[VERDICT..ASK].copy_from_slice(&own.1.words());
+    report[ASK_VERDICT..].copy_from_slice(&asked.1.words());
+    report
 }
 
-fn file_answer((number, [shape, s, g]): (u32, Told)) -> Answer {
-    Answer { number, report: [shape, s, g, 0, 0, 0], place: 0 }
+fn outcome_answer(number: u32, outcome: Outcome) -> Answer {
+    Answer { number, report: report_of((0, outcome), Default::default()), place: 0 }
+}
+
+fn file_answer((number, told): (u32, Told)) -> Answer {
+    let mut report = Report::default();
+    report[..told.len()].copy_from_slice(&told);
+    Answer { number, report, place: 0 }
 }
 
 /// Runs a call on the model; a read changes the call's own list.
@@ -138,6 +157,5 @@ pub fn run(call: &mut Call, lent: &mut Lent) -> Answer {
 fn run_turn(lent: &mut Lent, words: u64) -> Answer {
     let (number, [own, asked], record) = patrol::turn(lent.record, &mut lent.image, words);
     lent.record = record;
-    let report = [own.0, own.1.verdict, own.1.count, asked.0, asked.1.verdict, asked.1.count];
-    Answer { number, report, place: 0 }
+    Answer { number, report: report_of(own, asked), place: 0 }
 }

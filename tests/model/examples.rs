@@ -33,16 +33,20 @@ fn writing() {
 }
 
 fn visiting() {
-    let says = |verdict, count, before: Vec<u32>, after: Vec<u32>| {
-        assert_eq!(block::mended(&before), (Outcome { verdict, count }, after));
+    let mends = |count, before: Vec<u32>, after: Vec<u32>| {
+        assert_eq!(block::mended(&before), (Outcome { verdict: 2, count, beyond: 0 }, after));
     };
-    says(2, 1, rows(1, &[(5, 1)]), rows(1, &[]));
-    says(2, 32, rows(1, &[(16, u32::MAX)]), rows(1, &[]));
-    says(3, 1, all(1, &[3, 5], 1), all(1, &[3, 5], 1));
-    says(2, 2, rows(1, &[(3, 1), (5, 2)]), rows(1, &[]));
-    says(3, 1, rows(1, &[(3, 1), (5, 1), (9, 2)]), rows(1, &[(3, 1), (5, 1), (9, 2)]));
-    says(2, 1, all(1, &[1, 2, 4], 1), all(1, &[1, 2, 4, 7], 1));
-    says(3, 1, all(2, &[1, 9, 64], 1), all(2, &[1, 9, 64], 1));
+    let loses = |count, beyond, before: Vec<u32>| {
+        assert_eq!(block::mended(&before), (Outcome { verdict: 3, count, beyond }, before));
+    };
+    mends(1, rows(1, &[(5, 1)]), rows(1, &[]));
+    mends(32, rows(1, &[(16, u32::MAX)]), rows(1, &[]));
+    loses(1, 0, all(1, &[3, 5], 1));
+    mends(2, rows(1, &[(3, 1), (5, 2)]), rows(1, &[]));
+    loses(1, 0, rows(1, &[(3, 1), (5, 1), (9, 2)]));
+    mends(1, all(1, &[1, 2, 4], 1), all(1, &[1, 2, 4, 7], 1));
+    loses(0, 1, all(2, &[1, 9, 64], 1));
+    loses(1, 2, rows(2, &[(1, 6), (9, 6), (64, 6), (3, 1), (5, 1)]));
 }
 
 fn layout() {

@@ -114,7 +114,8 @@ pub fn inspect(file: &[u8]) -> String {
     for b in 0..n as u32 {
         let outcome = store::visit_block(&mut image, shape, s, b);
         let verdict = ["", "clean", "mended", "lost"][outcome.verdict as usize];
-        text += &format!("block {b} {verdict} {}\n", outcome.count);
+        let second = if outcome.verdict == 3 { format!(" {}", outcome.beyond) } else { String::new() };
+        text += &format!("block {b} {verdict} {}{second}\n", outcome.count);
         blocks[outcome.verdict as usize] += 1;
         if outcome.verdict == 2 {
             bits += outcome.count;

@@ -113,10 +113,13 @@ fn sample() -> Vec<u8> {
     file::file_of(1, 1, 1, &image)
 }
 
-/// The file with the longest report: as many blocks as fit, each with its last row flipped in every lane.
+/// The file with the longest report: as many blocks as fit, each with its last row flipped in every lane, and a hundred of them with
+/// another row too, so that the total has three digits of lost blocks and five of bits.
 fn longest_report() -> Vec<u8> {
-    let blocks = (LONGEST - 9) / (4 * block::rows(1));
-    let image: Vec<u32> = (0..blocks * block::rows(1)).map(|k| if (k + 1) % block::rows(1) == 0 { u32::MAX } else { 0 }).collect();
+    let rows = block::rows(1);
+    let blocks = (LONGEST - 9) / (4 * rows);
+    let flipped = |b: usize, row: usize| row == rows || (row == 1 && b < 100);
+    let image: Vec<u32> = (0..blocks * rows).map(|k| if flipped(k / rows, k % rows + 1) { u32::MAX } else { 0 }).collect();
     file::file_of(1, 1, blocks as u32, &image)
 }
 

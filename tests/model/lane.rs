@@ -2,12 +2,19 @@
 
 pub type Lane = Vec<bool>;
 
+/// The two kinds of lost: even parity, and an odd sum beyond the rows.
+#[derive(Clone, Copy, PartialEq, Debug)]
+pub enum Kind {
+    Even,
+    Beyond,
+}
+
 /// What can be said of a lane: it is valid, one flip of a row makes it valid, or neither.
 #[derive(Clone, Copy, PartialEq, Debug)]
 pub enum Finding {
     Valid,
     Flipped(usize),
-    Lost,
+    Lost(Kind),
 }
 
 /// The number of the last row.
@@ -55,7 +62,7 @@ pub fn search(lane: &Lane) -> Finding {
         }
         tried[row] = !tried[row];
     }
-    Finding::Lost
+    Finding::Lost(if odd(lane) { Kind::Beyond } else { Kind::Even })
 }
 
 /// The specification's five lines, word for word; the self-test holds the search to them.
@@ -65,7 +72,7 @@ pub fn decide(lane: &Lane) -> Finding {
         (false, 0) => Finding::Valid,
         (true, 0) => Finding::Flipped(rows),
         (true, sum) if sum <= rows - 1 => Finding::Flipped(sum),
-        (false, _) => Finding::Lost,
-        (true, _) => Finding::Lost,
+        (false, _) => Finding::Lost(Kind::Even),
+        (true, _) => Finding::Lost(Kind::Beyond),
     }
 }

@@ -4,6 +4,7 @@
 //!   model stream SEED CALLS DIR        DIR/calls, DIR/expected, DIR/tally
 //!   model tally                        sums tallies from standard input, and fails where a kind of answer is too rare
 //!   model files SEED COUNT DIR         DIR/K.image, DIR/K.expected
+//!   model inspect                      what the inspecting program must print of the file on standard input
 //!   model vectors SEED COUNT           to standard output, in the form of tests/VECTORS.md
 
 mod block;
@@ -21,7 +22,7 @@ mod stream;
 mod text;
 mod vectors;
 
-use std::io::{self, BufRead};
+use std::io::{self, BufRead, Read};
 use std::process::exit;
 
 /// One call in so many must be of each kind of answer; fewer calls than these are not held to it.
@@ -60,6 +61,13 @@ fn number(text: &str) -> u64 {
     })
 }
 
+fn inspect() -> io::Result<()> {
+    let mut bytes = Vec::new();
+    io::stdin().lock().read_to_end(&mut bytes)?;
+    print!("{}", file::inspect(&bytes));
+    Ok(())
+}
+
 fn main() -> io::Result<()> {
     let words: Vec<String> = std::env::args().skip(1).collect();
     match words.iter().map(String::as_str).collect::<Vec<_>>()[..] {
@@ -67,9 +75,10 @@ fn main() -> io::Result<()> {
         ["stream", seed, calls, dir] => stream::write(number(seed), number(calls), dir)?,
         ["tally"] => exit(if tally()? { 0 } else { 1 }),
         ["files", seed, count, dir] => files::write(number(seed), number(count), dir)?,
+        ["inspect"] => inspect()?,
         ["vectors", seed, count] => vectors::write(number(seed), number(count) as usize)?,
         _ => {
-            eprintln!("usage: model examples | stream SEED CALLS DIR | tally | files SEED COUNT DIR | vectors SEED COUNT");
+            eprintln!("usage: model examples | stream SEED CALLS DIR | tally | files SEED COUNT DIR | inspect | vectors SEED COUNT");
             exit(2);
         }
     }

@@ -4,7 +4,7 @@ use std::collections::BTreeMap;
 use std::fs::File;
 use std::io::{self, BufWriter, Write};
 
-use crate::call::{self, Answer, Call, Lent, Name};
+use crate::call::{self, Answer, Call, Lent, Name, ASK, ASK_VERDICT, VERDICT};
 use crate::file;
 use crate::generate::{self, Layout};
 use crate::random::Random;
@@ -37,13 +37,25 @@ impl Stream {
     }
 }
 
+/// A verdict by name; of lost, which kinds of lanes there are.
+fn verdict_name(words: &[u32]) -> &'static str {
+    match (words[0], words[1] > 0, words[2] > 0) {
+        (3, true, true) => "lost both",
+        (3, true, false) => "lost even",
+        (3, false, true) => "lost beyond",
+        (verdict, _, _) => ["none", "clean", "mended", "lost neither"][verdict as usize],
+    }
+}
+
 /// The call, its number, and which kind of accepted answer it is, or which reason a number has.
 pub fn kind(call: &Call, answer: &Answer, before: &Lent) -> String {
-    let verdict = |v: u32| ["none", "clean", "mended", "lost"][v as usize];
+    let report = &answer.report;
     let detail = match (call.name, answer.number) {
-        (Name::Read | Name::Visit, 0) => verdict(answer.report[1]),
-        (Name::Turn, 0) if answer.report[4] == 0 => "alone",
-        (Name::Turn, 0) if answer.report[0] == answer.report[3] => "twice",
+        (Name::Read | Name::Visit, 0) => verdict_name(&report[VERDICT..]),
+        (Name::Turn, 0) if report[ASK_VERDICT + 2] > 0 => "asked beyond",
+        (Name::Turn, 0) if report[VERDICT + 2] > 0 => "beyond",
+        (Name::Turn, 0) if report[ASK_VERDICT] == 0 => "alone",
+        (Name::Turn, 0) if report[0] == report[ASK] => "twice",
         (Name::Turn, 0) => "asked",
         (Name::Ask, 0) if !before.record[5..][..before.record[4] as usize].contains(&call.block) => "new",
         (Name::Ask, 0) if before.record[4] == 16 => "again-full",
@@ -65,10 +77,10 @@ pub fn kinds() -> Vec<String> {
     let ladders: [(&str, &[&str]); 9] = [
         ("format", &["0", "1", "2", "3", "4"]),
         ("write", &["0", "1", "2", "3", "4", "6", "7"]),
-        ("read", &["0 clean", "0 mended", "0 lost", "1", "2", "3", "4", "6", "7"]),
-        ("visit", &["0 clean", "0 mended", "0 lost", "1", "2", "3", "4", "6"]),
+        ("read", &["0 clean", "0 mended", "0 lost even", "0 lost beyond", "0 lost both", "1", "2", "3", "4", "6", "7"]),
+        ("visit", &["0 clean", "0 mended", "0 lost even", "0 lost beyond", "0 lost both", "1", "2", "3", "4", "6"]),
         ("ask", &["0 new", "0 again", "0 again-full", "1", "2", "3", "5", "6", "8"]),
-        ("turn", &["0 alone", "0 asked", "0 twice", "1", "2", "3", "4", "5"]),
+        ("turn", &["0 alone", "0 asked", "0 twice", "0 beyond", "0 asked beyond", "1", "2", "3", "4", "5"]),
         ("file_write", &["0 exact", "0 longer", "1", "2", "3", "4", "11", "12"]),
         ("file_layout", &["0", "11", "10 short", "9", "10 field", "1", "2", "3", "4", "4 uneven"]),
         ("file_read", &["0", "11", "10 short", "9", "10 field", "1", "2", "3", "4 body", "4 uneven", "4 image"]),

@@ -1,7 +1,7 @@
 //! The stream as text: a line a call, and a line of what it answers and leaves. All numbers are hexadecimal.
 //! tests/README.md has the whole of it.
 
-use crate::call::{Answer, Call, Lent, Name};
+use crate::call::{Answer, Call, Lent, Name, ASK, VERDICT};
 use crate::generate::Flip;
 use crate::patrol::Record;
 use crate::room::{filler, Spoilt};
@@ -128,10 +128,10 @@ pub fn answer_line(call: &Call, answer: &Answer, before: &Lent, lent: &Lent) -> 
     put(&mut line, u64::from(answer.number));
     match call.name {
         Name::Read => {
-            put_words(&mut line, &answer.report[1..3]);
+            put_words(&mut line, &answer.report[VERDICT..ASK]);
             put_words(&mut line, &call.list);
         }
-        Name::Visit => put_words(&mut line, &answer.report[1..3]),
+        Name::Visit => put_words(&mut line, &answer.report[VERDICT..ASK]),
         Name::Ask => put(&mut line, u64::from(answer.place)),
         Name::Turn => put_words(&mut line, &answer.report),
         Name::FileWrite => {

@@ -1,15 +1,17 @@
 -- The definitions computed by words, 32 lanes at once, so that a worked example costs little to compute. Assumes nothing.
 use Prim.Native.Nat.{ℕ, zero, suc, _+_, _^_, _≤_, _<_}
 use mathlib.Core.Bool.{Bool, true, _&&_}
-use mathlib.Core.Path.{_≡_, refl, sym, ap, _∙_}
+use mathlib.Core.Path.{_≡_, refl, sym, ap, ap₂, _∙_}
 use mathlib.Core.List.{List, [], _∷_}
 use native.Mathlib.Omega.{arith}
-use lib.Bits.{bitXor}
+use lib.Bits.{bitXor, bitOr}
+use lib.Count.{ones}
 use lib.Dec.{ltb}
 use lib.ListN.{length, getD, set}
 use lib.Pow.{pow-pos}
 use borrow.Author.Tests.{ltb-true}
 use Rattle.lane.specs.Bit.{bit, pick}
+use Rattle.lane.specs.Decision.{Kind, even, beyond}
 use Rattle.shape.specs.declared.Shape.{Shape}
 use Rattle.block.specs.declared.Verdict.the-variants.{Mended, Lost}
 use Rattle.shape.specs.Shape.{before, rows}
@@ -25,7 +27,7 @@ use Rattle.block.specs.Inner.{lostLanes, flippedIn, xorAll, withChecks}
 use Rattle.sums.proofs.RowSums.{sums-are}
 use Rattle.sums.proofs.Doubt.{word-lt, any-lt}
 use Rattle.block.proofs.Lanes.{ones-total}
-use Rattle.block.proofs.Judged.{lost-lt, lost-decides, mended-decides}
+use Rattle.block.proofs.Judged.{lost-as-lt, lost-decides, mended-decides}
 use Rattle.block.proofs.Decided.{decided}
 use Rattle.block.proofs.Data.{data-lt}
 use Rattle.block.proofs.Encoding.{built}
@@ -76,7 +78,7 @@ module _ (shape : Shape) (block : List ℕ) (fit : fit? block ≡ true) (long : 
   abbrev parity : ℕ
   parity = getD sums 7 0
 
-  abbrev lost : ℕ
+  abbrev lost : Kind → ℕ
   lost = lostLanes (before shape) parity sums
 
   are : sums ≡ sumsOf shape block
@@ -91,14 +93,17 @@ module _ (shape : Shape) (block : List ℕ) (fit : fit? block ≡ true) (long : 
   whole : rows shape ≤ length block
   whole = let h = rows-fit shape in omega arith
 
-  -- a lost block: how many lanes, and the block as it was
-  pub lost-by-words : (lost ≡ 0 → ⊥) → (verdictOf shape block ≡ Lost (bits lost)) × (mendedBlock shape block ≡ block)
+  -- a lost block: how many lanes of each kind, and the block as it was
+  pub lost-by-words : (bitOr (lost even) (lost beyond) ≡ 0 → ⊥)
+      → (verdictOf shape block ≡ Lost (bits (lost even)) (bits (lost beyond))) × (mendedBlock shape block ≡ block)
   lost-by-words ne =
       let d = decided shape block whole are (lost-decides shape sums parity-lt any-small block ne) in
-      (sym (d .0) ∙ ap Lost (ones-total 32 lost (lost-lt shape sums parity-lt any-small)), sym (d .1))
+      let counted : (kind : Kind) → ones (lost kind) ≡ bits (lost kind) =
+      λ kind. ones-total 32 (lost kind) (lost-as-lt shape sums parity-lt any-small kind) in
+      (sym (d .0) ∙ ap₂ Lost (counted even) (counted beyond), sym (d .1))
 
   -- a mended block: how many odd lanes, and the row that each one's sum names flipped
-  pub mended-by-words : lost ≡ 0 → (parity ≡ 0 → ⊥)
+  pub mended-by-words : bitOr (lost even) (lost beyond) ≡ 0 → (parity ≡ 0 → ⊥)
       → (verdictOf shape block ≡ Mended (bits parity)) × (mendedBlock shape block ≡ flippedIn (before shape + 1) sums (λ i. bit i parity) block)
   mended-by-words z ne =
       let d = decided shape block whole are (mended-decides shape sums parity-lt any-small block z ne) in

@@ -9,7 +9,7 @@ use lib.ListN.{length, getD}
 use borrow.Author.Tests.{eqb-true, not-false}
 use Rattle.lane.specs.Bit.{bit, pick}
 use Rattle.lane.specs.Lane.{sum, odd}
-use Rattle.lane.specs.Decision.{Decision, decision, decide, lost?, changes}
+use Rattle.lane.specs.Decision.{Kind, Decision, decision, decide, lost?, lostAs?, changes}
 use Rattle.lane.proofs.Bits.{bit-zero}
 use Rattle.ground.specs.Choice.{ifZero}
 use Rattle.ground.specs.Totals.{total}
@@ -21,19 +21,19 @@ use Rattle.shape.specs.Shape.{before, rows}
 use Rattle.block.specs.declared.Verdict.{Verdict}
 use Rattle.block.specs.declared.Verdict.the-variants.{Clean}
 use Rattle.sums.specs.Words.{lane}
-use Rattle.block.specs.Block.{lanesLost, mendedLanes, mendedBlock, bitsChanged}
+use Rattle.block.specs.Block.{lanesLost, lanesLostAs, mendedLanes, mendedBlock, bitsChanged}
 use Rattle.block.specs.Verdict.{saidBy, toSay, verdictOf}
 use Rattle.sums.specs.Sums.{sumsOf, doubtful}
-use Rattle.block.specs.Sums.{decisionIn, lostIn, oddCount, changedIn, Decides}
+use Rattle.block.specs.Sums.{decisionIn, lostIn, lostAsIn, oddCount, changedIn, Decides}
 use Rattle.sums.proofs.WordBits.{number-same, bit-number}
 use Rattle.sums.proofs.Doubt.{odd-in, sum-in}
 use Rattle.block.proofs.Blocks.{AllKept, none-counted, kept-none, none-kept, mended-kept, changed-odd}
 use Rattle.block.proofs.Verdicts.{says-verdict}
 
 -- the bits changed count only where no lane is lost
-said-same : (lost a b : ℕ) → (lost ≡ 0 → a ≡ b) → saidBy lost a ≡ saidBy lost b
-said-same zero a b e = ap (saidBy 0) (e refl)
-said-same (suc lost) a b e = refl
+said-same : (lost : ℕ) (kinds : Kind → ℕ) (a b : ℕ) → (lost ≡ 0 → a ≡ b) → saidBy lost kinds a ≡ saidBy lost kinds b
+said-same zero kinds a b e = ap (saidBy 0 kinds) (e refl)
+said-same (suc lost) kinds a b e = refl
 
 module _ (shape : Shape) (block : List ℕ) where
   abbrev sums : List ℕ
@@ -46,6 +46,10 @@ module _ (shape : Shape) (block : List ℕ) where
   lost-same : lostIn shape sums ≡ lanesLost shape block
   unfolding lostIn lanesLost
   lost-same = total-same 32 _ _ (λ i h. ap (λ (d : Decision). pick (lost? d) 1) (decision-in i h))
+
+  kinds-same : lostAsIn shape sums ≡ lanesLostAs shape block
+  unfolding lostAsIn lanesLostAs
+  kinds-same = λ t kind. total-same 32 _ _ (λ i h. ap (λ (d : Decision). pick (lostAs? kind d) 1) (decision-in i h)) t
 
   changed-same : changedIn shape sums block ≡ mendedLanes shape block
   unfolding changedIn mendedLanes
@@ -72,8 +76,9 @@ module _ (shape : Shape) (block : List ℕ) where
     unfolding toSay
     decided {v} are d = (
       says-verdict shape block {v = v}
-          (d .says ∙ ap (λ (l : List ℕ). saidBy (lostIn shape l) (oddCount l)) are ∙ ap (λ (n : ℕ). saidBy n (oddCount sums)) lost-same
-          ∙ said-same (lanesLost shape block) (oddCount sums) (bitsChanged shape block (mendedBlock shape block)) count-same),
+          (d .says ∙ ap (λ (l : List ℕ). saidBy (lostIn shape l) (lostAsIn shape l) (oddCount l)) are
+          ∙ ap₂ (λ (n : ℕ) (kinds : Kind → ℕ). saidBy n kinds (oddCount sums)) lost-same kinds-same
+          ∙ said-same (lanesLost shape block) (lanesLostAs shape block) (oddCount sums) (bitsChanged shape block (mendedBlock shape block)) count-same),
       d .leaves ∙ ap (λ (l : List ℕ). ifZero (lostIn shape l) (changedIn shape l block) block) are ∙ mended-same,
     )
 
@@ -98,7 +103,7 @@ module _ (shape : Shape) (block : List ℕ) where
       unfolding toSay
       clean-verdict =
           says-verdict shape block {v = Clean}
-          (ap₂ saidBy (sym (kept-none shape block kept))
+          (ap₂ (λ (n c : ℕ). saidBy n (lanesLostAs shape block) c) (sym (kept-none shape block kept))
           (sym
           (ap (bitsChanged shape block) (mended-kept shape block (kept-none shape block kept)) ∙ changed-odd shape block long kept
           ∙ none-counted 32 (λ i. odd (rows shape) (lane i block)) (λ i h. quiet i h .1))))

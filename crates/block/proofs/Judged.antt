@@ -6,14 +6,15 @@ use mathlib.Core.List.{List}
 use native.Mathlib.Nat.{mod-eq-of-lt}
 use native.Mathlib.Numerals.{add-one}
 use native.Mathlib.Omega.{arith}
-use lib.Bits.{bitXor, bitAnd, and-le-l, or-lt, xor-zero-r}
+use lib.Bits.{bitXor, bitAnd, bitOr, and-le-l, or-lt, xor-zero-r}
 use lib.Count.{ones}
 use lib.Dec.{eqb, ltb, leb, eqb·suc-zero, lit<}
 use lib.ListN.{length, getD}
 use borrow.Author.Tests.{leb-true}
 use Rattle.lane.specs.Bit.{bit, pick}
-use Rattle.lane.specs.Decision.{flipped, lost, decision, lost?, changes}
+use Rattle.lane.specs.Decision.{Kind, even, beyond, flipped, lost, decision, lost?, lostAs?, changes}
 use Rattle.lane.proofs.Bits.{bit-zero, bit-and, bit-or, bit-not, bit-ext-below}
+use Rattle.lane.proofs.TwoKinds.{either-kind}
 use Rattle.ground.specs.Choice.{ifZero}
 use Rattle.ground.proofs.Choices.{refused-kept}
 use Rattle.ground.proofs.Lists.{list-is, listOf-same}
@@ -24,13 +25,13 @@ use Rattle.shape.proofs.Sizes.{before-small}
 use Rattle.block.specs.declared.Verdict.the-variants.{Clean, Mended, Lost}
 use Rattle.block.specs.Verdict.{saidOf, saidBy}
 use Rattle.sums.specs.Sums.{sumIn, oddIn}
-use Rattle.block.specs.Sums.{decisionIn, lostIn, oddCount, changedIn, Decides}
+use Rattle.block.specs.Sums.{decisionIn, lostIn, lostAsIn, oddCount, changedIn, Decides}
 use Rattle.sums.specs.Inner.{anyOf}
 use Rattle.block.specs.Inner.{aboveOf, lostLanes, rowNamed, flippedIn}
 use Rattle.sums.proofs.WordBits.{number-same}
 use Rattle.sums.proofs.Doubt.{bit-any}
 use Rattle.block.proofs.Flips.{word-none}
-use Rattle.block.proofs.Lanes.{bit-above, lost-test, ones-total}
+use Rattle.block.proofs.Lanes.{bit-above, lostTest, lost-test, ones-total}
 use Rattle.block.proofs.Blocks.{counted-none, none-counted}
 
 -- a word with no ones is 0
@@ -49,7 +50,7 @@ changes-named m false (suc s) p k = absurd (true≢false k)
 changes-named m true zero p k = refl
 changes-named m true (suc s) p k = rw (eqb·suc-zero s) (go (leb (suc s) m) k)
   where
-    go : (t : Bool) → lost? (cond t (flipped (suc s)) lost) ≡ false → eqb p (suc s) ≡ changes (cond t (flipped (suc s)) lost) p
+    go : (t : Bool) → lost? (cond t (flipped (suc s)) (lost beyond)) ≡ false → eqb p (suc s) ≡ changes (cond t (flipped (suc s)) (lost beyond)) p
     go true k = refl
     go false k = absurd (true≢false k)
 
@@ -59,18 +60,18 @@ unfolding decision
 kept-low m zero k = omega arith
 kept-low m (suc s) k = go (leb (suc s) m) refl k
   where
-    go : (t : Bool) → leb (suc s) m ≡ t → lost? (cond t (flipped (suc s)) lost) ≡ false → suc s < m + 1
+    go : (t : Bool) → leb (suc s) m ≡ t → lost? (cond t (flipped (suc s)) (lost beyond)) ≡ false → suc s < m + 1
     go true e k = let h = leb-true (suc s) m e in omega arith
     go false e k = absurd (true≢false k)
 
 -- what is said by the numbers of lanes lost and bits changed
-said-lost : (n c : ℕ) → (n ≡ 0 → ⊥) → saidOf (Lost n) ≡ saidBy n c
-said-lost zero c ne = absurd (ne refl)
-said-lost (suc n) c ne = refl
+said-lost : (n : ℕ) (kinds : Kind → ℕ) (c : ℕ) → (n ≡ 0 → ⊥) → saidOf (Lost (kinds even) (kinds beyond)) ≡ saidBy n kinds c
+said-lost zero kinds c ne = absurd (ne refl)
+said-lost (suc n) kinds c ne = refl
 
-said-mended : (n : ℕ) → (n ≡ 0 → ⊥) → saidOf (Mended n) ≡ saidBy 0 n
-said-mended zero ne = absurd (ne refl)
-said-mended (suc n) ne = refl
+said-mended : (n : ℕ) (kinds : Kind → ℕ) → (n ≡ 0 → ⊥) → saidOf (Mended n) ≡ saidBy 0 kinds n
+said-mended zero kinds ne = absurd (ne refl)
+said-mended (suc n) kinds ne = refl
 
 module _ (shape : Shape) (sums : List ℕ) where
   abbrev m : ℕ
@@ -79,25 +80,40 @@ module _ (shape : Shape) (sums : List ℕ) where
   abbrev parity : ℕ
   parity = getD sums 7 0
 
+  abbrev lostAs : Kind → ℕ
+  lostAs = lostLanes m parity sums
+
   abbrev lostWord : ℕ
-  lostWord = lostLanes m parity sums
+  lostWord = bitOr (lostAs even) (lostAs beyond)
 
   lane-above : (i : ℕ) → bit i (aboveOf m 7 sums) ≡ ltb m (sumIn sums i)
   lane-above i = bit-above i sums m 7 ∙ ap (λ (x : ℕ). ltb x (sumIn sums i)) (mod-eq-of-lt (before-small shape))
 
   module _ (hp : parity < 2 ^ 32) (ha : anyOf 7 sums < 2 ^ 32) where
+    lane-tested : (kind : Kind) (i : ℕ) → i < 32 → bit i (lostAs kind) ≡ lostTest kind m (oddIn sums i) (sumIn sums i)
+    lane-tested even i hi = bit-and i (anyOf 7 sums) ((2 ^ 32 - 1) - parity) ∙ ap₂ _&&_ (bit-any i sums 7) (bit-not 32 i parity hi hp)
+    lane-tested beyond i hi = bit-and i parity (aboveOf m 7 sums) ∙ ap (λ (b : Bool). bit i parity && b) (lane-above i)
+
+    lane-lost-as : (kind : Kind) (i : ℕ) → i < 32 → bit i (lostAs kind) ≡ lostAs? kind (decisionIn shape sums i)
+    lane-lost-as kind i hi = lane-tested kind i hi ∙ lost-test kind m (oddIn sums i) (sumIn sums i)
+
     lane-lost : (i : ℕ) → i < 32 → bit i lostWord ≡ lost? (decisionIn shape sums i)
     lane-lost i hi =
-        bit-or i (bitAnd (anyOf 7 sums) ((2 ^ 32 - 1) - parity)) (bitAnd parity (aboveOf m 7 sums))
-        ∙ ap₂ _||_
-        (bit-and i (anyOf 7 sums) ((2 ^ 32 - 1) - parity) ∙ ap₂ _&&_ (bit-any i sums 7) (bit-not 32 i parity hi hp))
-        (bit-and i parity (aboveOf m 7 sums) ∙ ap (λ (b : Bool). bit i parity && b) (lane-above i))
-        ∙ lost-test m (oddIn sums i) (sumIn sums i)
+        bit-or i (lostAs even) (lostAs beyond)
+        ∙ ap₂ _||_ (lane-lost-as even i hi) (lane-lost-as beyond i hi)
+        ∙ either-kind (decisionIn shape sums i)
 
-    pub lost-lt : lostWord < 2 ^ 32
-    lost-lt =
-        or-lt 32 (bitAnd (anyOf 7 sums) ((2 ^ 32 - 1) - parity)) (bitAnd parity (aboveOf m 7 sums))
-        (omega (arith, and-le-l (anyOf 7 sums) ((2 ^ 32 - 1) - parity))) (omega (arith, and-le-l parity (aboveOf m 7 sums)))
+    pub lost-as-lt : (kind : Kind) → lostAs kind < 2 ^ 32
+    lost-as-lt even = omega (arith, and-le-l (anyOf 7 sums) ((2 ^ 32 - 1) - parity))
+    lost-as-lt beyond = omega (arith, and-le-l parity (aboveOf m 7 sums))
+
+    lost-lt : lostWord < 2 ^ 32
+    lost-lt = or-lt 32 (lostAs even) (lostAs beyond) (lost-as-lt even) (lost-as-lt beyond)
+
+    kind-count : (kind : Kind) → ones (lostAs kind) ≡ lostAsIn shape sums kind
+    unfolding lostAsIn
+    kind-count kind =
+        ones-total 32 (lostAs kind) (lost-as-lt kind) ∙ total-same 32 _ _ (λ i hi. ap (λ (b : Bool). pick b 1) (lane-lost-as kind i hi))
 
     lost-count : ones lostWord ≡ lostIn shape sums
     unfolding lostIn
@@ -109,11 +125,13 @@ module _ (shape : Shape) (sums : List ℕ) where
 
     -- ---- lost
 
-    pub lost-decides : (block : List ℕ) → (lostWord ≡ 0 → ⊥) → Decides shape block sums (Lost (ones lostWord)) block
+    pub lost-decides : (block : List ℕ) → (lostWord ≡ 0 → ⊥) → Decides shape block sums (Lost (ones (lostAs even)) (ones (lostAs beyond))) block
     lost-decides block some =
         let ne : lostIn shape sums ≡ 0 → ⊥ = λ z. some (no-ones lostWord lost-lt (lost-count ∙ z)) in
         record {
-          says = ap (λ (n : ℕ). saidOf (Lost n)) lost-count ∙ said-lost (lostIn shape sums) (oddCount sums) ne;
+          says =
+              ap₂ (λ (e b : ℕ). saidOf (Lost e b)) (kind-count even) (kind-count beyond)
+              ∙ said-lost (lostIn shape sums) (lostAsIn shape sums) (oddCount sums) ne;
           leaves = sym (refused-kept (lostIn shape sums) (changedIn shape sums block) block ne);
         }
 
@@ -145,8 +163,8 @@ module _ (shape : Shape) (sums : List ℕ) where
           record {
             says =
                 ap (λ (n : ℕ). saidOf (Mended n)) odd-count
-                ∙ said-mended (oddCount sums) (λ z. some (no-ones parity hp (odd-count ∙ z)))
-                ∙ ap (λ (n : ℕ). saidBy n (oddCount sums)) (sym none);
+                ∙ said-mended (oddCount sums) (lostAsIn shape sums) (λ z. some (no-ones parity hp (odd-count ∙ z)))
+                ∙ ap (λ (n : ℕ). saidBy n (lostAsIn shape sums) (oddCount sums)) (sym none);
             leaves = flips ∙ ap (λ (n : ℕ). ifZero n (changedIn shape sums block) block) (sym none);
           }
 
@@ -169,6 +187,7 @@ module _ (shape : Shape) (sums : List ℕ) where
       pub clean-decides : parity ≡ 0 → Decides shape block sums Clean block
       clean-decides z =
           record {
-            says = ap₂ saidBy (sym none) (sym (sym odd-count ∙ ap ones z ∙ none-ones));
+            says =
+                ap₂ (λ (n c : ℕ). saidBy n (lostAsIn shape sums) c) (sym none) (sym (sym odd-count ∙ ap ones z ∙ none-ones));
             leaves = sym (still z) ∙ ap (λ (n : ℕ). ifZero n (changedIn shape sums block) block) (sym none);
           }

@@ -12,7 +12,7 @@ use lib.ListN.{getD}
 use lib.Pow.{pow-pos, mod-pow-add}
 use borrow.Author.Tests.{lt-ltb, le-ltb, ltb-true, ltb-false}
 use Rattle.lane.specs.Bit.{set?, bit, pick}
-use Rattle.lane.specs.Decision.{flipped, lost, decision, lost?}
+use Rattle.lane.specs.Decision.{Kind, even, beyond, flipped, lost, decision, lostAs?}
 use Rattle.lane.proofs.Bits.{bit-zero, bit-and, bit-or, bit-shift}
 use Rattle.ground.specs.Totals.{total}
 use Rattle.sums.specs.Words.{number}
@@ -65,16 +65,28 @@ module _ (i : ℕ) (digits : List ℕ) where
       ∙ compare-more (2 ^ k) (top % 2 ^ k) (low k) (bit k top) (bit i (getD digits k 0)) (mod-lt top (pow-pos k)) (number-lt k _)
       ∙ ap (λ (x : ℕ). ltb x (low k + pick (bit i (getD digits k 0)) (2 ^ k))) (sym (mod-more top k))
 
--- ---- the lanes that are lost: even with a sum, or odd with a sum above the rows before the last
+-- ---- the lanes that are lost as a kind: even with a sum, or odd with a sum above the rows before the last
 
-pub lost-test : (m : ℕ) (o : Bool) (s : ℕ) → (not (eqb s 0) && not o) || (o && ltb m s) ≡ lost? (decision m o s)
+abbrev pub lostTest : Kind → ℕ → Bool → ℕ → Bool
+lostTest even m o s = not (eqb s 0) && not o
+lostTest beyond m o s = o && ltb m s
+
+pub lost-test : (kind : Kind) (m : ℕ) (o : Bool) (s : ℕ) → lostTest kind m o s ≡ lostAs? kind (decision m o s)
 unfolding decision
-lost-test m false zero = refl
-lost-test m false (suc s) = rw (eqb·suc-zero s)
-lost-test m true zero = le-ltb m 0 (omega arith)
-lost-test m true (suc s) = rw (eqb·suc-zero s) (go (leb (suc s) m) refl)
+lost-test even m false zero = refl
+lost-test even m false (suc s) = rw (eqb·suc-zero s)
+lost-test even m true zero = refl
+lost-test even m true (suc s) = rw (eqb·suc-zero s) (go (leb (suc s) m))
   where
-    go : (t : Bool) → leb (suc s) m ≡ t → ltb m (suc s) ≡ lost? (cond t (flipped (suc s)) lost)
+    go : (t : Bool) → false ≡ lostAs? even (cond t (flipped (suc s)) (lost beyond))
+    go true = refl
+    go false = refl
+lost-test beyond m false zero = refl
+lost-test beyond m false (suc s) = refl
+lost-test beyond m true zero = le-ltb m 0 (omega arith)
+lost-test beyond m true (suc s) = go (leb (suc s) m) refl
+  where
+    go : (t : Bool) → leb (suc s) m ≡ t → ltb m (suc s) ≡ lostAs? beyond (cond t (flipped (suc s)) (lost beyond))
     go true e = let h = borrow.Author.Tests.leb-true (suc s) m e in le-ltb m (suc s) h
     go false e = let h = borrow.Author.Tests.leb-false (suc s) m e in lt-ltb m (suc s) h
 

@@ -9,7 +9,7 @@ use lib.Dec.{ltb}
 use lib.ListN.{length, getD, replicate}
 use Rattle.lane.specs.Bit.{pick}
 use Rattle.lane.specs.Lane.{Valid, apart}
-use Rattle.lane.specs.Decision.{decide, lost?, changes}
+use Rattle.lane.specs.Decision.{Kind, decide, lost?, lostAs?, changes}
 use Rattle.lane.specs.Encoded.{encoded}
 use Rattle.ground.specs.Choice.{ifZero}
 use Rattle.shape.specs.declared.Shape.{Shape}
@@ -65,9 +65,12 @@ Encodes shape list block = block ≡ validBlock shape list
 
 -- ---- mending
 
--- how many lanes are lost
+-- how many lanes are lost, and how many of them are of a kind
 unfoldable pub lanesLost : Shape → List ℕ → ℕ
 lanesLost shape block = total 32 (λ i. pick (lost? (decide (before shape) (lane i block))) 1)
+
+unfoldable pub lanesLostAs : Shape → List ℕ → Kind → ℕ
+lanesLostAs shape block kind = total 32 (λ i. pick (lostAs? kind (decide (before shape) (lane i block))) 1)
 
 -- the block with the row that each lane's decision names changed in that lane
 unfoldable pub mendedLanes : Shape → List ℕ → List ℕ

@@ -6,6 +6,7 @@ use lib.ListN.{length, getD}
 use lib.Bits.{bitXor, bitAnd, bitOr}
 use lib.Dec.{eqb, leb, ltb}
 use Rattle.lane.specs.Bit.{bit}
+use Rattle.lane.specs.Decision.{Kind, even, beyond}
 use Rattle.ground.specs.Lists.{listOf}
 use Rattle.ground.specs.Stores.{stores}
 use Rattle.sums.specs.Words.{word}
@@ -37,10 +38,10 @@ aboveOf top zero digits = zero
 aboveOf top (suc k) digits =
     cond (bit k top) (bitAnd (aboveOf top k digits) (getD digits k 0)) (bitOr (aboveOf top k digits) (getD digits k 0))
 
--- the lanes that are lost: even with a sum, or odd with a sum above top
-abbrev pub lostLanes : ℕ → ℕ → List ℕ → ℕ
-lostLanes top parity digits =
-    bitOr (bitAnd (anyOf 7 digits) ((2 ^ 32 - 1) - parity)) (bitAnd parity (aboveOf top 7 digits))
+-- the lanes that are lost as a kind: even with a sum, or odd with a sum above top
+abbrev pub lostLanes : ℕ → ℕ → List ℕ → Kind → ℕ
+lostLanes top parity digits even = bitAnd (anyOf 7 digits) ((2 ^ 32 - 1) - parity)
+lostLanes top parity digits beyond = bitAnd parity (aboveOf top 7 digits)
 
 -- the row that an odd lane's sum names
 abbrev pub rowNamed : ℕ → ℕ → ℕ

@@ -5,7 +5,7 @@ use mathlib.Core.List.{List}
 use lib.Bits.{bitXor}
 use lib.ListN.{length, getD}
 use Rattle.lane.specs.Bit.{pick}
-use Rattle.lane.specs.Decision.{Decision, decision, lost?, changes}
+use Rattle.lane.specs.Decision.{Kind, Decision, decision, lost?, lostAs?, changes}
 use Rattle.ground.specs.Choice.{ifZero}
 use Rattle.ground.specs.Lists.{listOf}
 use Rattle.ground.specs.Totals.{total}
@@ -27,9 +27,12 @@ pub record CopiesData (shape : Shape) (words : List ℕ) (at s : ℕ) (buffer af
 abbrev pub decisionIn : Shape → List ℕ → ℕ → Decision
 decisionIn shape sums i = decision (before shape) (oddIn sums i) (sumIn sums i)
 
--- how many lanes are lost, and how many are odd
+-- how many lanes are lost, how many of them are of a kind, and how many lanes are odd
 unfoldable pub lostIn : Shape → List ℕ → ℕ
 lostIn shape sums = total 32 (λ i. pick (lost? (decisionIn shape sums i)) 1)
+
+unfoldable pub lostAsIn : Shape → List ℕ → Kind → ℕ
+lostAsIn shape sums kind = total 32 (λ i. pick (lostAs? kind (decisionIn shape sums i)) 1)
 
 unfoldable pub oddCount : List ℕ → ℕ
 oddCount sums = total 32 (λ i. pick (oddIn sums i) 1)
@@ -41,5 +44,5 @@ changedIn shape sums block =
 
 -- the promise of decide: what it says, and the block that it leaves
 pub record Decides (shape : Shape) (block sums : List ℕ) (found : Verdict) (after : List ℕ) : Type 0 where
-  pub says : saidOf found ≡ saidBy (lostIn shape sums) (oddCount sums)
+  pub says : saidOf found ≡ saidBy (lostIn shape sums) (lostAsIn shape sums) (oddCount sums)
   pub leaves : after ≡ ifZero (lostIn shape sums) (changedIn shape sums block) block

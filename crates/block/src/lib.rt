@@ -12,6 +12,6 @@ pub enum Verdict {
     Clean,
     // How many bits are changed.
     Mended(u32),
-    // How many lanes are lost.
-    Lost(u32),
+    // How many lanes are lost with even parity, and how many with an odd sum beyond the rows.
+    Lost(u32, u32),
 }

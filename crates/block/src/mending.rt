@@ -88,9 +88,10 @@ pub fn decide(shape: Shape, block: &mut [u32; MOST_ROWS], sums: &[u32; SUM_WORDS
 {
     let top = rows_before(shape);
     let parity = odd(sums);
-    let lost = any(sums) & !parity | parity & above(sums, top);
-    if lost != 0 {
-        return Verdict::Lost(u32::count_ones(lost));
+    let even = any(sums) & !parity;
+    let beyond = parity & above(sums, top);
+    if even | beyond != 0 {
+        return Verdict::Lost(u32::count_ones(even), u32::count_ones(beyond));
     }
     if parity == 0 {
         return Verdict::Clean;

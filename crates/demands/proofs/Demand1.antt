@@ -45,7 +45,7 @@ module _ (rules : List Rule) (number : ℕ) (inner : Answer) (plain : answerNumb
   refusing new lent =
       record {
         ruled = rw counted (ruled rules number t first);
-        bare = λ ne. rw (answered-refused number inner (refused ne)) (refl, refl);
+        bare = λ ne. rw (answered-refused number inner (refused ne)) (refl, refl, refl);
         unchanged = λ ne. refused-kept number new lent (refused ne);
       }
 
@@ -74,7 +74,7 @@ ask-refuses r block =
 
 turn-bare : (report : Report) → (reportNumber report ≡ 0 → ⊥) → Bare (reportFirst report) × Bare (reportSecond report)
 turn-bare report ne =
-    let none : Bare unseen = (refl, refl, refl) in
+    let none : Bare unseen = (refl, (refl, refl, refl)) in
     let bare = report-bare report ne in
     (subst Bare (sym (bare .0)) none, subst Bare (sym (bare .1)) none)
 

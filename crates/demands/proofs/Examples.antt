@@ -4,12 +4,13 @@ use mathlib.Core.Bool.{true}
 use mathlib.Core.Path.{_≡_, refl, sym, ap, ap₂, _∙_}
 use mathlib.Core.List.{List, _∷_, _++_, map}
 use native.Mathlib.Omega.{arith}
-use lib.Bits.{bitXor}
+use lib.Bits.{bitXor, bitOr}
 use lib.ListN.{length, getD, set}
 use Rattle.ground.specs.Totals.{total}
 use Rattle.ground.specs.Stores.{stores}
 use Rattle.ground.specs.Lists.{listOf}
 use Rattle.lane.specs.Bit.{bit}
+use Rattle.lane.specs.Decision.{Kind, even, beyond}
 use Rattle.lane.specs.Rows.{power?, rowsWhere}
 use Rattle.shape.specs.declared.Shape.{Shape}
 use Rattle.block.specs.declared.Verdict.{Verdict}
@@ -42,17 +43,18 @@ module _ (shape : Shape) where
       ∙ ap₂ (λ (w : Verdict) (l : List ℕ). verdictWords w ++ l) (e .0) (e .1)
 
   module _ (found : List ℕ) (fit : fit? found ≡ true) (long : length found ≡ 72) where
-    abbrev lostWord : ℕ
+    abbrev lostWord : Kind → ℕ
     lostWord = lostLanes (before shape) (getD (rowSums shape found) 7 0) (rowSums shape found)
 
-    -- a lost block, by the word of its lost lanes
-    was-lost : (w n : ℕ) → lostWord ≡ suc w → bits lostWord ≡ n
-        → _≡_ {A = List ℕ} (saidWords (toSay shape found) ++ mendedBlock shape found) (verdictWords (Lost n) ++ found)
-    was-lost w n e c =
-        said found found _ (lost-by-words shape found fit long (λ z. omega (arith, e))) ∙ ap (λ (k : ℕ). verdictWords (Lost k) ++ found) c
+    -- a lost block, by the words of its lost lanes
+    was-lost : (w e b : ℕ) → bitOr (lostWord even) (lostWord beyond) ≡ suc w → bits (lostWord even) ≡ e → bits (lostWord beyond) ≡ b
+        → _≡_ {A = List ℕ} (saidWords (toSay shape found) ++ mendedBlock shape found) (verdictWords (Lost e b) ++ found)
+    was-lost w e b some c d =
+        said found found _ (lost-by-words shape found fit long (λ z. omega (arith, some)))
+        ∙ ap₂ (λ (k l : ℕ). verdictWords (Lost k l) ++ found) c d
 
     -- a mended block, by the word of its odd lanes
-    was-mended : (n w : ℕ) (after : List ℕ) → lostWord ≡ 0 → getD (rowSums shape found) 7 0 ≡ suc w
+    was-mended : (n w : ℕ) (after : List ℕ) → bitOr (lostWord even) (lostWord beyond) ≡ 0 → getD (rowSums shape found) 7 0 ≡ suc w
         → bits (getD (rowSums shape found) 7 0) ≡ n
         → flippedIn (before shape + 1) (rowSums shape found) (λ i. bit i (getD (rowSums shape found) 7 0)) found ≡ after
         → _≡_ {A = List ℕ} (saidWords (toSay shape found) ++ mendedBlock shape found) (verdictWords (Mended n) ++ after)
@@ -69,9 +71,9 @@ all-hold =
     (ap₂ _∷_ (wrote _ _ _ refl refl)
     (ap₂ _∷_ (was-mended _ _ refl refl 1 _ _ refl refl refl refl)
     (ap₂ _∷_ (was-mended _ _ refl refl 32 _ _ refl refl refl refl)
-    (ap₂ _∷_ (was-lost _ _ refl refl _ 1 refl refl)
+    (ap₂ _∷_ (was-lost _ _ refl refl _ 1 0 refl refl refl)
     (ap₂ _∷_ (was-mended _ _ refl refl 2 _ _ refl refl refl refl)
-    (ap₂ _∷_ (was-lost _ _ refl refl _ 1 refl refl)
+    (ap₂ _∷_ (was-lost _ _ refl refl _ 1 0 refl refl refl)
     (ap₂ _∷_ (was-mended _ _ refl refl 1 _ _ refl refl refl refl)
-    (ap₂ _∷_ (was-lost _ _ refl refl _ 1 refl refl)
+    (ap₂ _∷_ (was-lost _ _ refl refl _ 0 1 refl refl refl)
     (ap₂ _∷_ refl refl))))))))))))

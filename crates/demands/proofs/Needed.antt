@@ -20,7 +20,7 @@ use Rattle.block.proofs.ByWords.{fit?}
 use Rattle.layout.specs.declared.Layout.{Layout}
 use Rattle.layout.specs.Layout.{layoutOf, shapeNumbered, blocks}
 use Rattle.layout.specs.Refusal.{layoutRefusal, imageRefusal, blockRefusal}
-use Rattle.store.specs.Answer.{answerNumber, answerVerdict}
+use Rattle.store.specs.Answer.{answerNumber, answerSaid}
 use Rattle.store.specs.Fresh.{freshImage, freshAfter}
 use Rattle.store.specs.Image.{gathered, placed}
 use Rattle.store.specs.Read.{readAnswer, readBuffer, mendedData}
@@ -36,6 +36,7 @@ use Rattle.patrol.specs.Format.{formatted}
 use Rattle.patrol.specs.Numbers.{reportNumber}
 use Rattle.patrol.specs.Turn.{turned, turnAfter}
 use Rattle.demands.specs.Steps.{Step, format, write, read, visit, ask, turn, flip, State, fresh, flipped, after, report, turns, lastWritten}
+use Rattle.demands.specs.Demand2.{SaysLost}
 use Rattle.demands.specs.Demand3.{PatrolVisits, AskVisits, FormatAccepted, store}
 use Rattle.demands.proofs.Tests.{made, every?, Hypothesis, layouts, words, spacing, formats, every, others, Meets, meets}
 
@@ -58,7 +59,7 @@ sevens = replicate 11 7
 
 -- what a read of a block with the layout says, and the first word that it leaves in a buffer of sevens
 abbrev pub says : ℕ → List Step → ℕ
-says block steps = answerVerdict (readAnswer (small steps .image) ours block sevens)
+says block steps = answerSaid (readAnswer (small steps .image) ours block sevens) .verdict
 
 abbrev pub gives : ℕ → List Step → ℕ
 gives block steps = getD (readBuffer (small steps .image) ours block sevens) 0 0
@@ -123,7 +124,7 @@ pub record Needed : Type 0 where
   pub same-visit-meets : KeepsRead every 1 (visited ours)
   -- a read with that layout is accepted and says lost, with no flip at all
   pub other-read : answerNumber (readAnswer (small (write ours 0 allOnes ∷ []) .image) other 1 sevens) ≡ 0
-  pub other-read-says : answerVerdict (readAnswer (small (write ours 0 allOnes ∷ []) .image) other 1 sevens) ≡ 3
+  pub other-read-says : SaysLost (readAnswer (small (write ours 0 allOnes ∷ []) .image) other 1 sevens)
   pub other-read-else : Keeps (others layouts) (write ours 0 allOnes ∷ read other 1 sevens ∷ [])
   -- a data word of 33 bits is cut
   pub cut-gives : gives 1 longWord ≡ 0

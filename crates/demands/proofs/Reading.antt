@@ -10,7 +10,7 @@ use Rattle.layout.specs.declared.Layout.{Layout}
 use Rattle.layout.specs.Layout.{shapeOf, wordsOf}
 use Rattle.layout.specs.Refusal.{imageRefusal, blockRefusal}
 use Rattle.layout.proofs.Ladder.{block-image, accepted}
-use Rattle.store.specs.Answer.{answerNumber, answerVerdict}
+use Rattle.store.specs.Answer.{answerNumber}
 use Rattle.store.specs.Image.{gathered}
 use Rattle.store.specs.Read.{readAnswer, readBuffer, mendedData}
 use Rattle.store.specs.Refusal.{dataRefusal}
@@ -21,6 +21,7 @@ use Rattle.rota.specs.Steps.{other}
 use Rattle.rota.specs.Touches.{read as reads}
 use Rattle.rota.proofs.Patrol.{read-right}
 use Rattle.demands.specs.Steps.{Step, write, read, fresh, lastWritten}
+use Rattle.demands.specs.Demand2.{SaysLost}
 use Rattle.demands.specs.Demand3.{WordsWritten, store, NotFormatted, OneLayout, FlipsSpaced, ReadsRight}
 use Rattle.demands.proofs.Numbers.{read-number}
 use Rattle.block.proofs.Told.{three-lost}
@@ -38,9 +39,9 @@ use Rattle.demands.proofs.Written.{DataOf, written-data}
 module _ (image : List ℕ) (layout : Layout) (block : ℕ) (buffer : List ℕ)
     (passed : dataRefusal (length image) layout block (length buffer) ≡ 0)
     (kept : lanesLost (shapeOf layout) (gathered layout block image) ≡ 0) where
-  says-kept : answerVerdict (readAnswer image layout block buffer) ≡ 3 → ⊥
+  says-kept : SaysLost (readAnswer image layout block buffer) → ⊥
   unfolding readAnswer verdictOf
-  says-kept e = three-lost (lanesLost (shapeOf layout) (gathered layout block image)) _ (rw passed at e) kept
+  says-kept e = three-lost _ (lanesLost (shapeOf layout) (gathered layout block image)) _ (rw passed at e) kept
 
   leaves-data : readBuffer image layout block buffer ≡ dataOf (shapeOf layout) (mendedBlock (shapeOf layout) (gathered layout block image))
   unfolding readBuffer mendedData
@@ -118,7 +119,7 @@ module _ (image : List ℕ) (layout : Layout) (before rest : List Step) (block :
       ∙ ap (λ (list : List ℕ). (0, dataOf (shapeOf layout) (validBlock (shapeOf layout) list)))
       (parts-written block before (replicate (wordsOf layout) 0) (fresh image layout))
 
-  right : (answerVerdict (readAnswer (store image layout before .image) layout block buffer) ≡ 3 → ⊥)
+  right : (SaysLost (readAnswer (store image layout before .image) layout block buffer) → ⊥)
       × (readBuffer (store image layout before .image) layout block buffer ≡ last)
   right =
       let kept = ap (λ (x : ℕ × List ℕ). x .0) found-last in (
@@ -138,7 +139,7 @@ Right image layout before rest block buffer named =
     → FlipsSpaced image layout (before ++ read named block buffer ∷ rest)
     → NotFormatted image layout (before ++ read named block buffer ∷ rest)
     → dataRefusal (length (store image layout before .image)) named block (length buffer) ≡ 0
-    → (answerVerdict (readAnswer (store image layout before .image) named block buffer) ≡ 3 → ⊥)
+    → (SaysLost (readAnswer (store image layout before .image) named block buffer) → ⊥)
     × (readBuffer (store image layout before .image) named block buffer ≡ lastWritten block (replicate (wordsOf layout) 0) before (fresh image layout))
 
 pub reads-right : (image : List ℕ) (layout : Layout) → ReadsRight image layout
@@ -149,4 +150,4 @@ reads-right image layout steps one words spaced none before rest named block buf
     let passed = sym (read-number (store image layout before .image) named block buffer) ∙ number in
     let any = subst (λ (other : Layout). Right image layout before rest block buffer other) (sym same) (right image layout before rest block buffer) in
     let both = any (rw e at one) (rw e at words) (rw e at spaced) (rw e at none) passed in
-    (λ lost. both .0 (sym (ap answerVerdict given) ∙ lost), promise .leaves ∙ both .1)
+    (λ lost. both .0 (subst SaysLost given lost), promise .leaves ∙ both .1)

@@ -9,7 +9,6 @@ use lib.ListN.{replicate}
 use Rattle.block.proofs.ByWords.{fit?}
 use Rattle.layout.specs.Layout.{layoutOf, shapeNumbered, wordsOf, blocks}
 use Rattle.layout.specs.Refusal.{layoutRefusal, imageRefusal, blockRefusal}
-use Rattle.store.specs.Answer.{answerVerdict}
 use Rattle.store.specs.Fresh.{freshImage, freshAfter}
 use Rattle.store.specs.Image.{gathered, placed}
 use Rattle.store.specs.Read.{readAnswer, readBuffer}
@@ -29,6 +28,7 @@ use Rattle.patrol.specs.Turn.{turned, turnAfter, Turns}
 use Rattle.patrol.proofs.Promises.{asks, turns as turnsSo}
 use Rattle.demands.specs.Steps.{Step, format, write, read, visit, ask, turn, flip}
 use Rattle.demands.specs.Steps.{State, fresh, flipped, stepAfter, after, answers, report, turns, lastWritten}
+use Rattle.demands.specs.Demand2.{SaysLost}
 use Rattle.demands.specs.Demand3.{PatrolVisits, AskVisits, NotFormatted, FormatAccepted}
 use Rattle.demands.proofs.Demand3.{demand-3}
 use Rattle.demands.proofs.Lasting.{front-none}
@@ -123,9 +123,9 @@ pub record Shown : Type 0 where
   pub served : AskVisits 1 (report (small (start ++ ask 1 ∷ [])))
   -- c: block 1 reads as it was last written, and block 0 as zeros; neither is lost
   pub written : readBuffer (small begun .image) ours 1 sevens ≡ oneFirst
-  pub written-kept : answerVerdict (readAnswer (small begun .image) ours 1 sevens) ≡ 3 → ⊥
+  pub written-kept : SaysLost (readAnswer (small begun .image) ours 1 sevens) → ⊥
   pub zero : readBuffer (small readOnce .image) ours 0 sevens ≡ replicate 11 0
-  pub zero-kept : answerVerdict (readAnswer (small readOnce .image) ours 0 sevens) ≡ 3 → ⊥
+  pub zero-kept : SaysLost (readAnswer (small readOnce .image) ours 0 sevens) → ⊥
 
 none : NotFormatted lent ours steps
 none = computed .hypotheses .all .1 .1 .1 .0
@@ -135,7 +135,7 @@ none-begun = front-none origin begun (read ours 1 sevens ∷ ended) none
 
 -- a read that is accepted gives what was last written
 read-right : (before rest : List Step) (block : ℕ) → steps ≡ before ++ read ours block sevens ∷ rest → answers (read ours block sevens) (small before) ≡ 0
-    → (answerVerdict (readAnswer (small before .image) ours block sevens) ≡ 3 → ⊥)
+    → (SaysLost (readAnswer (small before .image) ours block sevens) → ⊥)
     × (readBuffer (small before .image) ours block sevens ≡ lastWritten block (replicate (wordsOf ours) 0) before origin)
 read-right before rest block e a =
     let h = computed .hypotheses .all in

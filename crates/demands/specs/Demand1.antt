@@ -5,10 +5,11 @@ use mathlib.Core.Path.{_≡_}
 use mathlib.Core.List.{List}
 use lib.ListN.{length}
 use Rattle.ground.specs.Rules.{Rule, Ruled}
+use Rattle.block.specs.Verdict.{Said}
 use Rattle.layout.specs.declared.Layout.{Layout}
 use Rattle.layout.specs.Reason.{imageRules, blockRules}
 use Rattle.store.specs.declared.Answer.{Answer}
-use Rattle.store.specs.Answer.{answerNumber, answerVerdict, answerCount}
+use Rattle.store.specs.Answer.{answerNumber, answerSaid}
 use Rattle.store.specs.Reason.{dataRules}
 use Rattle.store.specs.Write.{Writes}
 use Rattle.store.specs.Read.{Reads}
@@ -24,10 +25,14 @@ use Rattle.patrol.specs.Turn.{Turns}
 use Rattle.patrol.specs.Numbers.{Seen, reportNumber, reportFirst, reportSecond}
 use Rattle.patrol.specs.Reason.{askRules, turnRules}
 
+-- nothing is said: verdict and both counts 0
+abbrev pub Unsaid : Said → Type 0
+Unsaid said = (said .verdict ≡ 0) × (said .count ≡ 0) × (said .beyond ≡ 0)
+
 -- a call on an image that goes by a list of rules, with what was lent to it and what is left there
 pub record Refusing (rules : List Rule) (answer : Answer) (lent left : List ℕ) : Type 1 where
   pub ruled : Ruled rules (answerNumber answer)
-  pub bare : (answerNumber answer ≡ 0 → ⊥) → (answerVerdict answer ≡ 0) × (answerCount answer ≡ 0)
+  pub bare : (answerNumber answer ≡ 0 → ⊥) → Unsaid (answerSaid answer)
   pub unchanged : (answerNumber answer ≡ 0 → ⊥) → left ≡ lent
 
 -- the patrol's calls: a refused one hands back the record that it got, or, if it got none, one of zeros
@@ -40,9 +45,9 @@ pub record AskRefusing (r : Record) (block : ℕ) (answer : Asked) : Type 1 wher
   pub bare : (placeNumber (answer .place) ≡ 0 → ⊥) → placeGiven (answer .place) ≡ 0
   pub unchanged : (placeNumber (answer .place) ≡ 0 → ⊥) → answer .back ≡ r
 
--- a visit with block, verdict and count 0
+-- a visit with block, verdict and counts 0
 abbrev pub Bare : Seen → Type 0
-Bare seen = (seen .block ≡ 0) × (seen .said .verdict ≡ 0) × (seen .said .count ≡ 0)
+Bare seen = (seen .block ≡ 0) × Unsaid (seen .said)
 
 pub record TurnRefusing (r : Record) (image : List ℕ) (answer : Turned) (after : List ℕ) : Type 1 where
   pub ruled : Ruled (turnRules r (length image)) (reportNumber (answer .report))

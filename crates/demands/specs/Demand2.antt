@@ -1,22 +1,25 @@
--- Demand 2: a visit leaves the one valid block that differs in at most one bit a lane, and says lost exactly if there is none;
+-- Demand 2: a visit leaves the one valid block that differs in at most one bit a lane, and says lost exactly if there is none, with the
+-- lanes lost with even parity and those lost with an odd sum beyond the rows;
 -- a write stores the one valid block for its data; a read answers as a visit would, gives the mended data and leaves the image.
 -- Assumes nothing.
-use Prim.Native.Nat.{ℕ, _≤_, _<_}
+use Prim.Native.Nat.{ℕ, _+_, _≤_, _<_}
 use mathlib.Core.Bool.{Bool, true}
 use mathlib.Core.Path.{_≡_}
 use mathlib.Core.List.{List}
-use mathlib.Core.Logic.{_↔_}
+use mathlib.Core.Logic.{_⊎_, _↔_}
 use Rattle.ground.specs.Totals.{total}
 use Rattle.lane.specs.Bit.{pick}
 use Rattle.lane.specs.Lane.{Lane, Valid, apart}
+use Rattle.lane.specs.Decision.{Kind, even, beyond, LostAs}
 use Rattle.shape.specs.declared.Shape.{Shape}
+use Rattle.shape.specs.declared.Shape.the-variants.{One}
 use Rattle.shape.specs.Shape.{before}
 use Rattle.sums.specs.Words.{lane}
 use Rattle.block.specs.Block.{ValidBlock, dataOf, bitsChanged, Near, SameRows, Fitting}
 use Rattle.layout.specs.declared.Layout.{Layout}
 use Rattle.layout.specs.Layout.{shapeOf}
 use Rattle.store.specs.declared.Answer.{Answer}
-use Rattle.store.specs.Answer.{answerNumber, answerVerdict, answerCount}
+use Rattle.store.specs.Answer.{answerNumber, answerSaid}
 use Rattle.store.specs.Image.{gathered, Untouched}
 use Rattle.store.specs.Write.{Writes}
 use Rattle.store.specs.Read.{Reads}
@@ -30,40 +33,51 @@ pub record Meant (shape : Shape) (found meant : List ℕ) : Type 0 where
 
 -- the verdicts are numbered 1 clean, 2 mended, 3 lost
 abbrev pub SaysClean : Answer → Type 0
-SaysClean answer = answerVerdict answer ≡ 1
+SaysClean answer = answerSaid answer .verdict ≡ 1
 
 abbrev pub SaysMended : Answer → Type 0
-SaysMended answer = answerVerdict answer ≡ 2
+SaysMended answer = answerSaid answer .verdict ≡ 2
 
 abbrev pub SaysLost : Answer → Type 0
-SaysLost answer = answerVerdict answer ≡ 3
+SaysLost answer = answerSaid answer .verdict ≡ 3
 
--- a lane of a block counts as lost: no valid lane is within one row of it
+-- a lane of a block is lost: no valid lane is within one row of it
 abbrev pub LaneLost : Shape → List ℕ → ℕ → Type 0
 LaneLost shape found i = (meant : Lane) → Valid (before shape) meant → apart (before shape) (lane i found) meant ≤ 1 → ⊥
 
--- so many of the 32 lanes are of a kind
-pub record CountsLanes (count : ℕ) (Kind : ℕ → Type 0) : Type 0 where
-  pub of-kind : ℕ → Bool
-  pub exactly : (i : ℕ) → i < 32 → (of-kind i ≡ true) ↔ Kind i
-  pub counted : count ≡ total 32 (λ i. pick (of-kind i) 1)
+-- it is of a kind: even with a sum that is not 0, or odd with a sum of rows or more
+abbrev pub LaneLostAs : Kind → Shape → List ℕ → ℕ → Type 0
+LaneLostAs kind shape found i = LostAs kind (before shape) (lane i found)
+
+-- so many of the 32 lanes are such
+pub record CountsLanes (count : ℕ) (Such : ℕ → Type 0) : Type 0 where
+  pub such? : ℕ → Bool
+  pub exactly : (i : ℕ) → i < 32 → (such? i ≡ true) ↔ Such i
+  pub counted : count ≡ total 32 (λ i. pick (such? i) 1)
 
 -- ---- one block, as it was found and as it was left
 
 pub record Mends (shape : Shape) (found left : List ℕ) (answer : Answer) : Type 0 where
   -- not lost: what is left is the block that was meant, and the count is the bits that differ before and after
   pub mended : (SaysLost answer → ⊥) → Meant shape found left
-  pub count : (SaysLost answer → ⊥) → answerCount answer ≡ bitsChanged shape found left
+  pub count : (SaysLost answer → ⊥) → answerSaid answer .count ≡ bitsChanged shape found left
+  pub no-second : (SaysLost answer → ⊥) → answerSaid answer .beyond ≡ 0
   -- there is never a second one
   pub only : (other : List ℕ) → Meant shape found other → SameRows shape other left
-  -- lost exactly if there is none; the count is the lanes that are lost
+  -- lost exactly if there is none; the two counts are the lanes that are even with a sum, and those that are odd with a sum of rows or more
   pub lost : SaysLost answer ↔ ((other : List ℕ) → Meant shape found other → ⊥)
-  pub lanes : SaysLost answer → CountsLanes (answerCount answer) (LaneLost shape found)
-  -- either count is from 1 to 32
-  pub range : (SaysClean answer → ⊥) → (1 ≤ answerCount answer) × (answerCount answer ≤ 32)
+  pub lanes-even : SaysLost answer → CountsLanes (answerSaid answer .count) (LaneLostAs even shape found)
+  pub lanes-beyond : SaysLost answer → CountsLanes (answerSaid answer .beyond) (LaneLostAs beyond shape found)
+  -- these are the lost lanes, and together the counts are all of them; in shape 1 no sum is beyond the rows
+  pub kinds : (i : ℕ) → LaneLost shape found i ↔ (LaneLostAs even shape found i ⊎ LaneLostAs beyond shape found i)
+  pub lanes : SaysLost answer → CountsLanes (answerSaid answer .count + answerSaid answer .beyond) (LaneLost shape found)
+  pub within-one : shape ≡ One → answerSaid answer .beyond ≡ 0
+  -- either count, of lost the two together, is from 1 to 32
+  pub range : (SaysClean answer → ⊥) → (1 ≤ answerSaid answer .count + answerSaid answer .beyond)
+      × (answerSaid answer .count + answerSaid answer .beyond ≤ 32)
   -- clean exactly if the block was valid, and the count is then 0
   pub clean : SaysClean answer ↔ ValidBlock shape found
-  pub clean-count : SaysClean answer → answerCount answer ≡ 0
+  pub clean-count : SaysClean answer → answerSaid answer .count ≡ 0
   -- mended where it is neither
   pub else-mended : (SaysClean answer → ⊥) → (SaysLost answer → ⊥) → SaysMended answer
 

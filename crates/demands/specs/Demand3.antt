@@ -15,7 +15,7 @@ use Rattle.layout.specs.declared.Layout.{Layout}
 use Rattle.layout.specs.Layout.{rowsOf, wordsOf, blocks, index}
 use Rattle.layout.specs.Refusal.{imageRefusal}
 use Rattle.store.specs.declared.Answer.{Answer}
-use Rattle.store.specs.Answer.{answerNumber, answerVerdict}
+use Rattle.store.specs.Answer.{answerNumber}
 use Rattle.store.specs.Read.{Reads}
 use Rattle.rota.specs.Numbers.{placeNumber, placeGiven}
 use Rattle.patrol.specs.declared.Report.{Report}
@@ -24,6 +24,7 @@ use Rattle.patrol.specs.declared.Turned.{Turned}
 use Rattle.patrol.specs.Ask.{Asks}
 use Rattle.patrol.specs.Turn.{Turns}
 use Rattle.patrol.specs.Numbers.{Seen, reportNumber, reportFirst, reportSecond}
+use Rattle.demands.specs.Demand2.{SaysLost}
 use Rattle.demands.specs.Steps.{Step, format, write, read, visit, ask, turn, flip, State, fresh, after, answers, turns, lastWritten}
 
 -- a visit in a report names the block, and has a verdict
@@ -126,7 +127,7 @@ module _ (image : List ℕ) (layout : Layout) where
       → (before rest : List Step) (named : Layout) (block : ℕ) (buffer : List ℕ) → steps ≡ before ++ read named block buffer ∷ rest
       → (answer : Answer) (kept left : List ℕ) → Reads (store before .image) named block buffer answer kept left
       → answerNumber answer ≡ 0
-      → (answerVerdict answer ≡ 3 → ⊥) × (left ≡ lastWritten block (replicate (wordsOf layout) 0) before (fresh image layout))
+      → (SaysLost answer → ⊥) × (left ≡ lastWritten block (replicate (wordsOf layout) 0) before (fresh image layout))
 
 -- for every image and every layout
 pub record Demand3 : Type 0 where

@@ -27,10 +27,17 @@ dataWord words k word = set (replicate words 0) (k - 1) word
 abbrev pub writes : Shape → List ℕ → List ℕ → Example
 writes shape list block = record { gives = validBlock shape list; must = block }
 
--- visiting: the verdict's number and its count, and the block after
-abbrev pub visits : Shape → List ℕ → ℕ → ℕ → List ℕ → Example
-visits shape found verdict count after =
-    record { gives = saidWords (toSay shape found) ++ mendedBlock shape found; must = verdict ∷ count ∷ after }
+-- visiting: the verdict's number and its two counts, and the block after
+abbrev pub visits : Shape → List ℕ → ℕ → ℕ → ℕ → List ℕ → Example
+visits shape found verdict count beyond after =
+    record { gives = saidWords (toSay shape found) ++ mendedBlock shape found; must = verdict ∷ count ∷ beyond ∷ after }
+
+-- mended, with the bits changed; lost, with the lanes of each kind, and as it was found
+abbrev pub mends : Shape → List ℕ → ℕ → List ℕ → Example
+mends shape found bits after = visits shape found 2 bits 0 after
+
+abbrev pub loses : Shape → List ℕ → ℕ → ℕ → Example
+loses shape found even beyond = visits shape found 3 even beyond found
 
 abbrev pub ones : ℕ
 ones = 0xFFFFFFFF
@@ -52,19 +59,19 @@ examples =
     -- 4: shape 2, data word 64 = 1: rows 1, 2, 4, 64, 71 and 72 become 1
     ∷ writes Two (dataWord 64 64 1) (blank with 1 in-rows (1 ∷ 2 ∷ 4 ∷ 64 ∷ 71 ∷ 72 ∷ []))
     -- 5: row 5 = 1: mended 1, all zero after
-    ∷ visits One (blank with 1 in-rows (5 ∷ [])) 2 1 blank
+    ∷ mends One (blank with 1 in-rows (5 ∷ [])) 1 blank
     -- 6: row 16 = FFFFFFFF hex: mended 32, all zero after
-    ∷ visits One (blank with ones in-rows (16 ∷ [])) 2 32 blank
-    -- 7: rows 3 and 5 = 1: lost 1, unchanged
-    ∷ visits One (blank with 1 in-rows (3 ∷ 5 ∷ [])) 3 1 (blank with 1 in-rows (3 ∷ 5 ∷ []))
+    ∷ mends One (blank with ones in-rows (16 ∷ [])) 32 blank
+    -- 7: rows 3 and 5 = 1: lost 1 0, unchanged
+    ∷ loses One (blank with 1 in-rows (3 ∷ 5 ∷ [])) 1 0
     -- 8: row 3 = 1, row 5 = 2: mended 2
-    ∷ visits One (blank with 1 in-rows (3 ∷ []) with 2 in-rows (5 ∷ [])) 2 2 blank
-    -- 9: rows 3 and 5 = 1, row 9 = 2: lost 1; row 9 stays 2
-    ∷ visits One (blank with 1 in-rows (3 ∷ 5 ∷ []) with 2 in-rows (9 ∷ [])) 3 1 (blank with 1 in-rows (3 ∷ 5 ∷ []) with 2 in-rows (9 ∷ []))
+    ∷ mends One (blank with 1 in-rows (3 ∷ []) with 2 in-rows (5 ∷ [])) 2 blank
+    -- 9: rows 3 and 5 = 1, row 9 = 2: lost 1 0; row 9 stays 2
+    ∷ loses One (blank with 1 in-rows (3 ∷ 5 ∷ []) with 2 in-rows (9 ∷ [])) 1 0
     -- 10: rows 1, 2 and 4 = 1: mended 1; row 7 becomes 1 too
-    ∷ visits One (blank with 1 in-rows (1 ∷ 2 ∷ 4 ∷ [])) 2 1 (blank with 1 in-rows (1 ∷ 2 ∷ 4 ∷ 7 ∷ []))
-    -- 11: shape 2, rows 1, 9 and 64 = 1: sum 72, odd: lost 1
-    ∷ visits Two (blank with 1 in-rows (1 ∷ 9 ∷ 64 ∷ [])) 3 1 (blank with 1 in-rows (1 ∷ 9 ∷ 64 ∷ []))
+    ∷ mends One (blank with 1 in-rows (1 ∷ 2 ∷ 4 ∷ [])) 1 (blank with 1 in-rows (1 ∷ 2 ∷ 4 ∷ 7 ∷ []))
+    -- 11: shape 2, rows 1, 9 and 64 = 1: sum 72, odd: lost 0 1
+    ∷ loses Two (blank with 1 in-rows (1 ∷ 9 ∷ 64 ∷ [])) 0 1
     -- 12: shape 2, s = 6, block 7: row 1 at index 433, row 72 at 859
     ∷ record { gives = index (layoutOf 2 6 2) 7 1 ∷ index (layoutOf 2 6 2) 7 72 ∷ []; must = 433 ∷ 859 ∷ [] }
     ∷ []

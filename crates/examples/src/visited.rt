@@ -18,10 +18,10 @@ fn mends(rows: [u32; 16], bits: u32, after: [u32; 16]) -> bool {
     visit_leaves(&mut image, 1, Verdict::Mended(bits), &after)
 }
 
-// Whether a visit of this block of shape 1 finds so many lanes lost and leaves every row.
+// Whether a visit of this block of shape 1 finds so many lanes lost with even parity, and no others, and leaves every row.
 fn loses(rows: [u32; 16], lanes: u32) -> bool {
     let mut image = rows;
-    visit_leaves(&mut image, 1, Verdict::Lost(lanes), &rows)
+    visit_leaves(&mut image, 1, Verdict::Lost(lanes, 0), &rows)
 }
 
 // Row 5 = 1: mended 1, all zero after.
@@ -38,7 +38,7 @@ pub(crate) fn example_6() -> bool {
     )
 }
 
-// Rows 3 and 5 = 1: lost 1, unchanged.
+// Rows 3 and 5 = 1: lost 1 0, unchanged.
 pub(crate) fn example_7() -> bool {
     loses([0, 0, 1, 0, 1, 0, 0, 0, 0, 0, 0, 0, 0, 0, 0, 0], 1)
 }
@@ -48,7 +48,7 @@ pub(crate) fn example_8() -> bool {
     mends([0, 0, 1, 0, 2, 0, 0, 0, 0, 0, 0, 0, 0, 0, 0, 0], 2, [0; 16])
 }
 
-// Rows 3 and 5 = 1, row 9 = 2: lost 1; row 9 stays 2.
+// Rows 3 and 5 = 1, row 9 = 2: lost 1 0; row 9 stays 2.
 pub(crate) fn example_9() -> bool {
     loses([0, 0, 1, 0, 1, 0, 0, 0, 2, 0, 0, 0, 0, 0, 0, 0], 1)
 }
@@ -59,12 +59,12 @@ pub(crate) fn example_10() -> bool {
     mends([1, 1, 0, 1, 0, 0, 0, 0, 0, 0, 0, 0, 0, 0, 0, 0], 1, after)
 }
 
-// Shape 2, rows 1, 9 and 64 = 1: sum 72, odd: lost 1, unchanged.
+// Shape 2, rows 1, 9 and 64 = 1: sum 72, odd: lost 0 1, unchanged.
 pub(crate) fn example_11() -> bool {
     let mut image = [0u32; 72];
     image[0] = 1;
     image[8] = 1;
     image[63] = 1;
     let after = image;
-    visit_leaves(&mut image, 2, Verdict::Lost(1), &after)
+    visit_leaves(&mut image, 2, Verdict::Lost(0, 1), &after)
 }

@@ -60,6 +60,7 @@ fn accepted_files() {
     show(b"shape-1-interleaved");
     show(b"shape-2");
     show(b"shape-2-interleaved");
+    show(b"kinds-of-lost");
     show(b"most-blocks");
 }
 

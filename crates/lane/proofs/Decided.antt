@@ -10,7 +10,7 @@ use lib.Dec.{leb, eqb}
 use borrow.Author.Tests.{leb-true, leb-false, eq-eqb, ne-eqb}
 use Rattle.lane.specs.Bit.{bit, _⊕_, pick}
 use Rattle.lane.specs.Lane.{Lane, sum, count, odd, Valid, diff, apart}
-use Rattle.lane.specs.Decision.{lost, flipped, decision, decide, Right}
+use Rattle.lane.specs.Decision.{even, beyond, lost, flipped, decision, decide, Right}
 use Rattle.lane.proofs.Bits.{⊕-zero, bit-one}
 use Rattle.lane.proofs.Linear.{sum-diff, odd-diff}
 use Rattle.lane.proofs.Distance.{Weight, weight}
@@ -78,7 +78,7 @@ module _ (m : ℕ) (f : Lane) where
   odd-then-even : (r : ℕ) → 1 ≤ r → r ≤ suc m → odd (suc m) f ≡ true → odd (suc m) (diff f (only r)) ≡ false
   odd-then-even r l h o = flip-odd m r f l h ∙ ap (λ (b : Bool). b ⊕ true) o
 
-  by-row : (s : ℕ) (t : Bool) → leb (suc s) m ≡ t → odd (suc m) f ≡ true → sum m f ≡ suc s → Right m f (cond t (flipped (suc s)) lost)
+  by-row : (s : ℕ) (t : Bool) → leb (suc s) m ≡ t → odd (suc m) f ≡ true → sum m f ≡ suc s → Right m f (cond t (flipped (suc s)) (lost beyond))
   by-row s true l o e =
       let h = leb-true (suc s) m l in (
         omega arith,
@@ -90,12 +90,13 @@ module _ (m : ℕ) (f : Lane) where
       )
   by-row s false l o e =
       let k = leb-false (suc s) m l in
-      λ g v h. ⊎-elim (λ c. omega arith) (λ c. omega arith) (near-valid g v h)
+      ((o, omega arith), λ g v h. ⊎-elim (λ c. omega arith) (λ c. omega arith) (near-valid g v h))
 
   by-case : (o : Bool) (s : ℕ) → odd (suc m) f ≡ o → sum m f ≡ s → Right m f (decision m o s)
   unfolding decision
   by-case false zero o e = record { sum-zero = e; even = o }
-  by-case false (suc s) o e = λ g v h. ⊎-elim (λ c. omega arith) (λ c. true≢false (sym (c .0) ∙ o)) (near-valid g v h)
+  by-case false (suc s) o e =
+      ((o, λ z. omega arith), λ g v h. ⊎-elim (λ c. omega arith) (λ c. true≢false (sym (c .0) ∙ o)) (near-valid g v h))
   by-case true zero o e =
       (omega arith, omega arith, record { sum-zero = flip-last m f ∙ e; even = odd-then-even (suc m) (omega arith) (le-refl (suc m)) o })
   by-case true (suc s) o e = by-row s (leb (suc s) m) refl o e

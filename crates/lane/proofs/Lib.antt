@@ -5,3 +5,4 @@ pub mod Decided
 pub mod Mended
 pub mod Rows
 pub mod Exactly
+pub mod TwoKinds

@@ -6,10 +6,10 @@ use native.Mathlib.Nat.{le-refl}
 use native.Mathlib.Omega.{arith}
 use lib.Bits.{xor-zero-r}
 use lib.Dec.{leb}
-use borrow.Author.Tests.{leb-true}
+use borrow.Author.Tests.{leb-true, ne-eqb}
 use Rattle.lane.specs.Bit.{bit, _⊕_, pick}
 use Rattle.lane.specs.Lane.{Lane, sum, count, odd, Valid, diff, apart}
-use Rattle.lane.specs.Decision.{Decision, unchanged, lost, flipped, decision, decide, lost?, changes, mended, Right}
+use Rattle.lane.specs.Decision.{Decision, beyond, unchanged, lost, flipped, decision, decide, lost?, changes, mended, Right}
 use Rattle.lane.proofs.Bits.{⊕-zero, bit-zero, pick-one}
 use Rattle.lane.proofs.Linear.{count-same, valid-same}
 use Rattle.lane.proofs.Distance.{never-two}
@@ -42,16 +42,26 @@ module _ (m : ℕ) (f : Lane) where
   by-right : (d : Decision) → Right m f d → lost? d ≡ false → Valid m (diff f (changes d))
   by-right unchanged v ok = valid-same m f (diff f (changes unchanged)) (λ j l. sym (⊕-zero (f (suc j)))) v
   by-right (flipped r) v ok = v .2
-  by-right lost v ok = absurd (true≢false ok)
+  by-right (lost kind) v ok = absurd (true≢false ok)
 
   -- a lane that is not lost is valid once mended
   pub mended-valid : lost? (decide m f) ≡ false → Valid m (mended m f)
   mended-valid ok = by-right (decide m f) (decided m f) ok
 
+  past : (d : Decision) → Right m f d → (p : ℕ) → suc m < p → changes d p ≡ false
+  past unchanged r p h = refl
+  past (flipped q) r p h = ne-eqb p q (λ e. omega (arith, r .1))
+  past (lost kind) r p h = refl
+
+  -- no row past the last is changed
+  pub none-past : (p : ℕ) → suc m < p → changes (decide m f) p ≡ false
+  none-past = past (decide m f) (decided m f)
+
   changed : (d : Decision) → apart m f (diff f (changes d)) ≡ count (suc m) (changes d)
   changed d = count-same (suc m) (diff f (diff f (changes d))) (changes d) (λ j l. ⊕-cancel (f (suc j)) (changes d (suc j)))
 
-  by-row : (s : ℕ) (t : Bool) → leb (suc s) m ≡ t → lost? (cond t (flipped (suc s)) lost) ≡ false → count (suc m) (changes (cond t (flipped (suc s)) lost)) ≡ 1
+  by-row : (s : ℕ) (t : Bool) → leb (suc s) m ≡ t → lost? (cond t (flipped (suc s)) (lost beyond)) ≡ false
+      → count (suc m) (changes (cond t (flipped (suc s)) (lost beyond))) ≡ 1
   by-row s true e ok = let h = leb-true (suc s) m e in only-within (suc m) (suc s) (omega arith) (omega arith) .0
   by-row s false e ok = absurd (true≢false ok)
 
@@ -72,7 +82,7 @@ module _ (m : ℕ) (f : Lane) where
   module _ (g : Lane) (v : Valid m g) (h : apart m f g ≤ 1) where
     by-near : (d : Decision) → Right m f d → lost? d ≡ false
     by-near unchanged r = refl
-    by-near lost r = absurd (r g v h)
+    by-near (lost kind) r = absurd (r .1 g v h)
     by-near (flipped p) r = refl
 
     -- a lane within one row of a valid one is not lost, and is mended to that one

@@ -1,5 +1,5 @@
--- The report of a turn in the specification's numbers: a refusal's number with block, verdict and count 0; the second block, verdict and
--- count are 0 where no ask was served. Assumes nothing.
+-- The report of a turn in the specification's numbers: a refusal's number with block, verdict and counts 0; the second block, verdict and
+-- counts are 0 where no ask was served. Assumes nothing.
 use Prim.Native.Nat.{ℕ}
 use mathlib.Core.List.{List, _∷_, _++_}
 use Rattle.block.specs.declared.Verdict.{Verdict}

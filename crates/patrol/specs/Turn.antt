@@ -45,9 +45,9 @@ withTurn r = withRota r (rotaOf (movedOn (blocks (r .layout)) (planOf (r .rota))
 abbrev pub seenIn : Layout → List ℕ → ℕ → Seen
 seenIn layout image block = record { block = block; said = toSay (shapeOf layout) (gathered layout block image) }
 
--- the ask at place 1, visited after the block that is next; block, verdict and count 0 where none waits
+-- the ask at place 1, visited after the block that is next; block, verdict and counts 0 where none waits
 abbrev pub askSeen : Layout → List ℕ → ℕ → List ℕ → Seen
-askSeen layout image next [] = record { block = 0; said = record { verdict = 0; count = 0 } }
+askSeen layout image next [] = unseen
 askSeen layout image next (first ∷ rest) = seenIn layout (visited layout image next) first
 
 -- the image after both

@@ -1,10 +1,10 @@
--- A verdict counts at most 32, so a tally of 4,096 blocks fits. Assumes nothing.
-use Prim.Native.Nat.{ℕ, zero, suc, _*_, _≤_}
+-- A verdict counts at most 32, both counts together, so a tally of 4,096 blocks fits. Assumes nothing.
+use Prim.Native.Nat.{ℕ, zero, suc, _+_, _*_, _≤_}
 use mathlib.Core.List.{List}
 use native.Mathlib.Omega.{arith}
 use Rattle.block.specs.declared.Verdict.{Verdict}
 use Rattle.block.specs.declared.Verdict.the-variants.{Clean, Mended, Lost}
-use Rattle.block.specs.Verdict.{verdictCount}
+use Rattle.block.specs.Verdict.{verdictCount, verdictBeyond}
 use Rattle.shape.proofs.Sizes.{rows-fit}
 use Rattle.block.proofs.Told.{count-most}
 use Rattle.layout.specs.declared.Layout.{Layout}
@@ -26,11 +26,11 @@ one-more n Clean tally c w =
     record { clean = omega (arith, w .clean); mended = omega (arith, w .mended); lost = omega (arith, w .lost); bits = omega (arith, w .bits) }
 one-more n (Mended m) tally c w =
     record { clean = omega (arith, w .clean); mended = omega (arith, w .mended); lost = omega (arith, w .lost); bits = omega (arith, w .bits) }
-one-more n (Lost m) tally c w =
+one-more n (Lost e b) tally c w =
     record { clean = omega (arith, w .clean); mended = omega (arith, w .mended); lost = omega (arith, w .lost); bits = omega (arith, w .bits) }
 
 module _ (image : List ℕ) (layout : Layout) where
-  pub verdict-most : (n : ℕ) → verdictCount (verdictAt image layout n) ≤ 32
+  pub verdict-most : (n : ℕ) → verdictCount (verdictAt image layout n) + verdictBeyond (verdictAt image layout n) ≤ 32
   unfolding verdictAt
   verdict-most n =
       count-most (shapeOf layout) _
@@ -39,4 +39,4 @@ module _ (image : List ℕ) (layout : Layout) where
   pub tally-within : (n : ℕ) → Within n (tallyBelow image layout n)
   unfolding tallyBelow
   tally-within zero = record { clean = omega arith; mended = omega arith; lost = omega arith; bits = omega arith }
-  tally-within (suc n) = one-more n (verdictAt image layout n) (tallyBelow image layout n) (verdict-most n) (tally-within n)
+  tally-within (suc n) = one-more n (verdictAt image layout n) (tallyBelow image layout n) (omega (arith, verdict-most n)) (tally-within n)

@@ -1,4 +1,5 @@
 pub mod Counts
+pub mod VerdictLine
 pub mod Visited
 pub mod Reported
 pub mod Whole

@@ -1,4 +1,4 @@
--- A file has at most 8,176 words and a report at most 10,202 bytes, so that buffers of those sizes hold them whole. Assumes nothing.
+-- A file has at most 8,176 words and a report at most 10,204 bytes, so that buffers of those sizes hold them whole. Assumes nothing.
 use Prim.Native.Nat.{ℕ, zero, suc, _+_, _-_, _*_, _≤_, _<_}
 use Prim.Native.String.{String}
 use mathlib.Core.Bool.{Bool, true, cond, _&&_}
@@ -13,12 +13,15 @@ use lib.Dec.{T, leb, leb→le}
 use lib.ListN.{length, take, drop, length-append}
 use lib.Seq.{take-at, drop-at}
 use Rattle.shape.specs.declared.Shape.{Shape}
+use Rattle.shape.specs.declared.Shape.the-variants.{One, Two}
 use Rattle.shape.specs.Shape.{rows}
 use Rattle.block.specs.declared.Verdict.{Verdict}
 use Rattle.block.specs.declared.Verdict.the-variants.{Clean, Mended, Lost}
-use Rattle.block.specs.Verdict.{verdictCount}
+use Rattle.block.specs.Verdict.{verdictCount, verdictBeyond, verdictOf}
+use Rattle.block.proofs.Told.{beyond-one}
 use Rattle.layout.specs.declared.Layout.{Layout}
-use Rattle.layout.specs.Layout.{blocks}
+use Rattle.layout.specs.Layout.{shapeNumbered, shapeOf, blocks}
+use Rattle.store.specs.Image.{gathered}
 use Rattle.ground.specs.Rules.{Rule, FirstOf}
 use Rattle.layout.proofs.Ladder.{Geometry}
 use Rattle.layout.proofs.Shapes.{shape-one, shape-two}
@@ -33,8 +36,8 @@ use Rattle.report.specs.declared.Tally.{Tally}
 use Rattle.ground.proofs.Bools.{left-part, right-part}
 use Rattle.text.specs.Text.{ascii, decimal, named, lineEnd}
 use Rattle.text.specs.Page.{Page, page, writtenAll, endToEnd}
-use Rattle.report.specs.Lines.{refusalLine, imageLine, verdictName, blockLine, totalLine, counted}
-use Rattle.report.specs.Report.{blockLines, tallyBelow, verdictAt, imageReport, reportFor, reportOf, Inspects}
+use Rattle.report.specs.Lines.{refusalLine, imageLine, verdictText, blockLine, totalLine, counted}
+use Rattle.report.specs.Report.{visitedBelow, blockLines, tallyBelow, verdictAt, imageReport, reportFor, reportOf, Inspects}
 use Rattle.report.specs.Inner.{room?, Reports}
 use Rattle.report.proofs.Counts.{Within, verdict-most, tally-within}
 use Rattle.text.proofs.Decimal.{decimal-short}
@@ -105,32 +108,52 @@ image-short layout ok few =
     and one-end)
     (omega arith)
 
--- the blocks that are clean or lost: their lines are two bytes shorter
-abbrev plain : Tally → ℕ
-plain tally = tally .clean + tally .lost
+-- the most blocks of a shape that a file has room for
+abbrev pub most : Shape → ℕ
+most One = 511
+most Two = 113
 
-verdict-short : (v : Verdict) (tally : Tally) → verdictCount v ≤ 32
-    → length (named (verdictName v) (verdictCount v)) + 2 * plain (counted v tally) ≤ 10 + 2 * plain tally
-verdict-short Clean tally h = omega (arith, named-short " clean " 0 1 (decimal-short 0 0 (omega arith)) .few)
-verdict-short (Mended m) tally h = omega (arith, named-short " mended " m 2 (decimal-short 1 m (omega arith)) .few)
-verdict-short (Lost m) tally h = omega (arith, named-short " lost " m 2 (decimal-short 1 m (omega arith)) .few)
+few-blocks : (shape : Shape) → most shape ≤ 511
+few-blocks One = omega arith
+few-blocks Two = omega arith
 
-block-short : (block : ℕ) (v : Verdict) (tally : Tally) → verdictCount v ≤ 32
-    → length (blockLine block v) + 2 * plain (counted v tally) ≤ 17 + length (decimal block) + 2 * plain tally
+-- a second count of lanes lost has one digit, or in shape 2 one more; so many bytes more have n lines
+abbrev besides : Shape → ℕ → ℕ
+besides One n = 0
+besides Two n = n
+
+one-besides : (shape : Shape) (n : ℕ) → besides shape (suc n) ≡ besides shape n + besides shape 1
+one-besides One n = refl
+one-besides Two n = omega arith
+
+second-digits : (shape : Shape) (block : List ℕ) → verdictBeyond (verdictOf shape block) ≤ 32
+    → length (decimal (verdictBeyond (verdictOf shape block))) ≤ 1 + besides shape 1
+second-digits One block h = rw (beyond-one block) (decimal-short 0 0 (omega arith))
+second-digits Two block h = decimal-short 1 (verdictBeyond (verdictOf Two block)) (omega arith)
+
+-- the line of a clean block is two bytes shorter
+verdict-short : (v : Verdict) (tally : Tally) (more : ℕ) → verdictCount v ≤ 32 → length (decimal (verdictBeyond v)) ≤ 1 + more
+    → length (verdictText v) + 2 * counted v tally .clean ≤ 10 + more + 2 * tally .clean
+verdict-short Clean tally more h k = omega (arith, named-short " clean " 0 1 (decimal-short 0 0 (omega arith)) .few)
+verdict-short (Mended m) tally more h k = omega (arith, named-short " mended " m 2 (decimal-short 1 m (omega arith)) .few)
+verdict-short (Lost e b) tally more h k =
+    omega (arith, (named-short " lost " e 2 (decimal-short 1 e (omega arith)) and named-short " " b (1 + more) k) .few)
+
+block-short : (block : ℕ) (v : Verdict) (tally : Tally) (more : ℕ) → verdictCount v ≤ 32 → length (decimal (verdictBeyond v)) ≤ 1 + more
+    → length (blockLine block v) + 2 * counted v tally .clean ≤ 17 + more + length (decimal block) + 2 * tally .clean
 unfolding blockLine
-block-short block v tally c =
-    let verdict = any-length (named (verdictName v) (verdictCount v)) in
-    let line = named-short "block " block (length (decimal block)) (omega arith) and verdict and one-end in
-    omega (arith, line .few, verdict-short v tally c)
+block-short block v tally more c d =
+    let line = named-short "block " block (length (decimal block)) (omega arith) and any-length (verdictText v) and one-end in
+    omega (arith, line .few, verdict-short v tally more c d)
 
--- the digits of the clean and of the lost are paid for by those two bytes
-total-short : (n : ℕ) (tally : Tally) → n ≤ 511 → Within n tally → Short (totalLine tally) (43 + 2 * plain tally)
+-- the digits of the clean are paid for by those two bytes
+total-short : (n : ℕ) (tally : Tally) → n ≤ 511 → Within n tally → Short (totalLine tally) (45 + 2 * tally .clean)
 unfolding totalLine
 total-short n tally h w =
     loosely
     (named-short "total clean " (tally .clean) (1 + 2 * tally .clean) (few-digits (tally .clean) (omega (arith, w .clean)))
     and named-short " mended " (tally .mended) 3 (decimal-short 2 (tally .mended) (omega (arith, w .mended)))
-    and named-short " lost " (tally .lost) (1 + 2 * tally .lost) (few-digits (tally .lost) (omega (arith, w .lost)))
+    and named-short " lost " (tally .lost) 3 (decimal-short 2 (tally .lost) (omega (arith, w .lost)))
     and named-short " bits " (tally .bits) 5 (decimal-short 4 (tally .bits) (omega (arith, w .bits)))
     and one-end)
     (omega arith)
@@ -146,23 +169,33 @@ end-to-end-last (first ∷ lines) line =
     omega (arith, end-to-end-last lines line)
 
 blocks-short : (image : List ℕ) (layout : Layout) (n : ℕ) → n ≤ 511
-    → length (endToEnd (blockLines image layout n)) + 2 * plain (tallyBelow image layout n) ≤ 18 * n + (n - 10) + (n - 100)
-unfolding blockLines tallyBelow endToEnd
+    → length (endToEnd (blockLines image layout n)) + 2 * tallyBelow image layout n .clean ≤ 18 * n + besides (shapeOf layout) n + (n - 10) + (n - 100)
+unfolding blockLines tallyBelow endToEnd verdictAt
 blocks-short image layout zero h = omega arith
 blocks-short image layout (suc n) h =
     let v = verdictAt image layout n in
+    let small = verdict-most image layout n in
+    let second = second-digits (shapeOf layout) (gathered layout n (visitedBelow image layout n)) (omega arith) in
     omega (
       arith,
       end-to-end-last (blockLines image layout n) (blockLine n v),
-      block-short n v (tallyBelow image layout n) (verdict-most image layout n),
+      block-short n v (tallyBelow image layout n) (besides (shapeOf layout) 1) (omega arith) second,
+      one-besides (shapeOf layout) n,
       digits n (omega arith),
       blocks-short image layout n (omega arith),
     )
 
-report-short : (image : List ℕ) (layout : Layout) → Geometry layout → blocks layout ≤ 511 → length (endToEnd (imageReport image layout)) ≤ 10202
+-- 511 lines of shape 1 are longer than 113 of shape 2
+lines-most : (shape : Shape) (n : ℕ) → n ≤ most shape → 18 * n + besides shape n + (n - 10) + (n - 100) ≤ 10110
+lines-most One n h = omega arith
+lines-most Two n h = omega arith
+
+report-short : (image : List ℕ) (layout : Layout) → Geometry layout → blocks layout ≤ most (shapeOf layout)
+    → length (endToEnd (imageReport image layout)) ≤ 10204
 unfolding imageReport endToEnd
-report-short image layout ok few =
+report-short image layout ok h =
     let n = blocks layout in
+    let few : n ≤ 511 = omega (arith, few-blocks (shapeOf layout)) in
     let total = totalLine (tallyBelow image layout n) in
     let first = imageLine layout n in
     let rest = blockLines image layout n ++ total ∷ [] in
@@ -172,19 +205,27 @@ report-short image layout ok few =
       image-short layout ok few .few,
       end-to-end-last (blockLines image layout n) total,
       blocks-short image layout n few,
+      lines-most (shapeOf layout) n h,
       total-short n (tallyBelow image layout n) few (tally-within image layout n) .few,
     )
 
 -- ---- the report of a file
 
--- a file has room for at most 511 blocks, and 8,176 words
-pub file-most : (bytes : List ℕ) → Accepted bytes → (blocks (layoutIn bytes) ≤ 511) × (wordCount (length bytes) ≤ 8176)
+-- a file has room for no more, and 8,176 words
+pub file-most : (bytes : List ℕ) → Accepted bytes → (blocks (layoutIn bytes) ≤ most (shapeOf (layoutIn bytes))) × (wordCount (length bytes) ≤ 8176)
 file-most bytes ok =
     let size : Shape → ℕ = λ (shape : Shape). 4 * (rows shape * blocks (layoutIn bytes)) in
-    let most = ok .frame .most in
+    let longest = ok .frame .most in
     ⊎-elim
-    (λ e. let body = ok .body ∙ ap size (shape-one (layoutIn bytes .shape) e) in (omega arith, omega arith))
-    (λ e. let body = ok .body ∙ ap size (shape-two (layoutIn bytes .shape) (λ q. omega arith)) in (omega arith, omega arith))
+    (λ e.
+    let one = shape-one (layoutIn bytes .shape) e in
+    let body = ok .body ∙ ap size one in
+    (rw one (omega arith), omega arith))
+    (λ e.
+    let not-one : layoutIn bytes .shape ≡ 1 → ⊥ = λ q. omega (arith, e) in
+    let two = shape-two (layoutIn bytes .shape) not-one in
+    let body = ok .body ∙ ap size two in
+    (rw two (omega arith), omega arith))
     (ok .geometry .shape-known)
 
 -- no rule has a number above 11
@@ -208,11 +249,11 @@ module _ (bytes : List ℕ) where
   abbrev found : Header
   found = Image (layoutIn bytes)
 
-  pub file-short : length (endToEnd (reportOf bytes)) ≤ 10202
+  pub file-short : length (endToEnd (reportOf bytes)) ≤ 10204
   unfolding reportOf headerOf endToEnd
   file-short = by (fileRefusal bytes) refl
     where
-      by : (n : ℕ) → fileRefusal bytes ≡ n → length (endToEnd (reportFor (headerIf n found) (wordsIn bytes))) ≤ 10202
+      by : (n : ℕ) → fileRefusal bytes ≡ n → length (endToEnd (reportFor (headerIf n found) (wordsIn bytes))) ≤ 10204
       by zero e =
           let ok = accepted bytes e in
           report-short (wordsIn bytes) (layoutIn bytes) (ok .geometry) (file-most bytes ok .0)
@@ -229,10 +270,10 @@ module _ (bytes : List ℕ) where
       by zero e = le-leb (wordCount (length bytes)) (length image) (omega (arith, file-most bytes (accepted bytes e) .1))
       by (suc n) e = refl
 
--- with 8,176 words and 10,202 bytes lent, the report is there whole, from byte 0 on, and the bytes past it are as they were
+-- with 8,176 words and 10,204 bytes lent, the report is there whole, from byte 0 on, and the bytes past it are as they were
 pub report-whole : {bytes image out after printed : List ℕ} {next : ℕ} → Reports bytes image out next after printed
     → 8176 ≤ length image
-    → 10202 ≤ length out
+    → 10204 ≤ length out
     → Inspects bytes out next printed
 report-whole {bytes} {image} {out} {after} {printed} {next} r h k =
     let text = endToEnd (reportOf bytes) in

@@ -1,11 +1,9 @@
--- The lines that are printed: the image line; for each block its number, its verdict and the verdict's count, 0 for clean; the blocks of
--- each verdict and all bits mended; and for a refusal one line, `refused` and the number. Assumes nothing.
+-- The lines that are printed: the image line; for each block its number, its verdict and the verdict's count, 0 for clean, or its two for lost;
+-- the blocks of each verdict and all bits mended; and for a refusal one line, `refused` and the number. Assumes nothing.
 use Prim.Native.Nat.{ℕ, _+_}
-use Prim.Native.String.{String}
 use mathlib.Core.List.{List, _++_}
 use Rattle.block.specs.declared.Verdict.{Verdict}
 use Rattle.block.specs.declared.Verdict.the-variants.{Clean, Mended, Lost}
-use Rattle.block.specs.Verdict.{verdictCount}
 use Rattle.layout.specs.declared.Layout.{Layout}
 use Rattle.report.specs.declared.Tally.{Tally}
 use Rattle.text.specs.Text.{named, lineEnd}
@@ -17,13 +15,14 @@ unfoldable pub imageLine : Layout → ℕ → List ℕ
 imageLine layout blocks =
     named "image shape " (layout .shape) ++ named " interleave " (layout .s) ++ named " groups " (layout .g) ++ named " blocks " blocks ++ lineEnd
 
-abbrev pub verdictName : Verdict → String
-verdictName Clean = " clean "
-verdictName (Mended m) = " mended "
-verdictName (Lost m) = " lost "
+-- of lost the lanes with even parity, and those with an odd sum beyond the rows
+abbrev pub verdictText : Verdict → List ℕ
+verdictText Clean = named " clean " 0
+verdictText (Mended bits) = named " mended " bits
+verdictText (Lost even beyond) = named " lost " even ++ named " " beyond
 
 unfoldable pub blockLine : ℕ → Verdict → List ℕ
-blockLine block verdict = named "block " block ++ named (verdictName verdict) (verdictCount verdict) ++ lineEnd
+blockLine block verdict = named "block " block ++ verdictText verdict ++ lineEnd
 
 unfoldable pub totalLine : Tally → List ℕ
 totalLine tally =
@@ -37,5 +36,5 @@ noBlocks = record { clean = 0; mended = 0; lost = 0; bits = 0 }
 -- one block more
 abbrev pub counted : Verdict → Tally → Tally
 counted Clean tally = record { clean = tally .clean + 1; mended = tally .mended; lost = tally .lost; bits = tally .bits }
-counted (Mended m) tally = record { clean = tally .clean; mended = tally .mended + 1; lost = tally .lost; bits = tally .bits + m }
-counted (Lost m) tally = record { clean = tally .clean; mended = tally .mended; lost = tally .lost + 1; bits = tally .bits }
+counted (Mended bits) tally = record { clean = tally .clean; mended = tally .mended + 1; lost = tally .lost; bits = tally .bits + bits }
+counted (Lost even beyond) tally = record { clean = tally .clean; mended = tally .mended; lost = tally .lost + 1; bits = tally .bits }

@@ -1,10 +1,9 @@
 // The lines of a report, each written at a place of a lent buffer; answers the next place.
 // A line that does not fit is not written, and the place stays.
 ghost use mathlib.Core.Path.{_≡_};
-ghost use Rattle.text.specs.Text.{ascii, decimal};
 ghost use Rattle.text.specs.Page.{page, written};
-ghost use Rattle.block.specs.Verdict.{verdictCount};
-ghost use Rattle.report.specs.Lines.{verdictName, refusalLine, imageLine, blockLine, totalLine};
+ghost use Rattle.report.specs.Lines.{refusalLine, imageLine, blockLine, totalLine};
+ghost use Rattle.report.specs.Inner.{putVerdict};
 use super::Tally;
 use block::Verdict;
 use layout::Layout;
@@ -32,15 +31,17 @@ pub(crate) fn image_line(layout: Layout, blocks: u32, out: &mut [u8], at: usize)
     put_text(&line[..n], out, at)
 }
 
-// The verdict and its count.
+// The verdict and its count, or its two for lost.
 fn put_verdict(verdict: Verdict, line: &mut [u8], at: usize) -> usize
-    ensures { λ r. ⌜ page (now (line .exit)) r
-        ≡ written (decimal (verdictCount verdict)) (written (ascii (verdictName verdict)) (page (now (line .entry)) at)) ⌝ }
+    ensures { λ r. ⌜ page (now (line .exit)) r ≡ putVerdict verdict (page (now (line .entry)) at) ⌝ }
 {
     match verdict {
         Verdict::Clean => put_named(b" clean ", 0, line, at),
-        Verdict::Mended(m) => put_named(b" mended ", m, line, at),
-        Verdict::Lost(m) => put_named(b" lost ", m, line, at),
+        Verdict::Mended(bits) => put_named(b" mended ", bits, line, at),
+        Verdict::Lost(even, beyond) => {
+            let next = put_named(b" lost ", even, line, at);
+            put_named(b" ", beyond, line, next)
+        }
     }
 }
 

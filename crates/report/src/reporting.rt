@@ -33,11 +33,11 @@ fn count(tally: Tally, verdict: Verdict) -> Tally
         Verdict::Clean => {
             more.clean += 1;
         }
-        Verdict::Mended(m) => {
+        Verdict::Mended(bits) => {
             more.mended += 1;
-            more.bits += m;
+            more.bits += bits;
         }
-        Verdict::Lost(_) => {
+        Verdict::Lost(_, _) => {
             more.lost += 1;
         }
     }

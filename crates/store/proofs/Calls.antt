@@ -101,12 +101,12 @@ module _ (image : List ℕ) {layout : Layout} {block : ℕ} {shape : Shape} {at 
       unfolding readAnswer
       read-answer = rw (list-fits (length image) layout block site (length buffer) fits) (ap Found judged)
 
-      pub read-lost : (m : ℕ) → v ≡ Lost m → Reads image layout block buffer (Found v) image buffer
+      pub read-lost : (e b : ℕ) → v ≡ Lost e b → Reads image layout block buffer (Found v) image buffer
       unfolding readBuffer mendedData
-      read-lost m l =
+      read-lost e b l =
           reads _ _ _ _ read-answer
           (rw (list-fits (length image) layout block site (length buffer) fits)
-          (sym (refused-kept _ _ buffer (lost-some (shapeOf layout) (gathered layout block image) v judged m l))))
+          (sym (refused-kept _ _ buffer (lost-some (shapeOf layout) (gathered layout block image) v judged e b l))))
 
       pub read-data : NotLost v → (mended after : List ℕ) → mended ≡ mendedBlock shape found → after ≡ dataInto shape mended buffer
           → Reads image layout block buffer (Found v) image after

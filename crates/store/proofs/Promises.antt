@@ -7,12 +7,13 @@ use native.Mathlib.Omega.{arith}
 use lib.ListN.{length}
 use Rattle.ground.specs.Choice.{ifZero}
 use Rattle.block.specs.declared.Verdict.{Verdict}
-use Rattle.block.specs.Verdict.{Said, saidOf, saidBy, toSay, verdictOf}
+use Rattle.block.specs.Verdict.{Said, saidOf, toSay, verdictOf}
 use Rattle.block.proofs.Verdicts.{verdict-says, said-told}
 use Rattle.layout.specs.declared.Layout.{Layout}
 use Rattle.layout.specs.Layout.{shapeOf}
 use Rattle.layout.specs.Refusal.{blockRefusal}
 use Rattle.store.specs.declared.Answer.{Answer}
+use Rattle.block.specs.declared.Verdict.the-variants.{Clean}
 use Rattle.store.specs.declared.Answer.the-variants.{Refused, Stored, Found}
 use Rattle.store.specs.Answer.{answered, verdictIn, Answers}
 use Rattle.store.specs.Image.{gathered}
@@ -73,12 +74,12 @@ module _ (image : List ℕ) (layout : Layout) (block : ℕ) where
 
   -- what a caller hears who wants the verdict alone
   heard : saidOf (verdictIn (visitAnswer image layout block))
-      ≡ ifZero (blockRefusal (length image) layout block) (toSay (shapeOf layout) (gathered layout block image)) (saidBy 0 0)
+      ≡ ifZero (blockRefusal (length image) layout block) (toSay (shapeOf layout) (gathered layout block image)) (saidOf Clean)
   unfolding visitAnswer
   heard = by (blockRefusal (length image) layout block)
     where
       by : (n : ℕ) → saidOf (verdictIn (answered n (Found (verdictOf (shapeOf layout) (gathered layout block image)))))
-          ≡ ifZero n (toSay (shapeOf layout) (gathered layout block image)) (saidBy 0 0)
+          ≡ ifZero n (toSay (shapeOf layout) (gathered layout block image)) (saidOf Clean)
       by zero = verdict-says (shapeOf layout) (gathered layout block image)
       by (suc n) = refl
 

@@ -1,5 +1,5 @@
 -- A mending keeps what is past the rows of the shape. Assumes nothing.
-use Prim.Native.Nat.{ℕ, zero, suc, _≤_, _<_}
+use Prim.Native.Nat.{ℕ, zero, suc, _≤_}
 use mathlib.Core.Bool.{false}
 use mathlib.Core.Path.{_≡_, refl, sym, ap, _∙_}
 use mathlib.Core.List.{List}
@@ -7,10 +7,9 @@ use mathlib.Core.Logic.{⊎-elim}
 use native.Mathlib.Omega.{arith}
 use lib.Bits.{bitXor, xor-zero-r}
 use lib.ListN.{length, getD, List·getD-eq-default}
-use borrow.Author.Tests.{ne-eqb}
 use Rattle.lane.specs.Lane.{Lane}
-use Rattle.lane.specs.Decision.{Decision, unchanged, lost, flipped, Right, decide, changes}
-use Rattle.lane.proofs.Decided.{decided}
+use Rattle.lane.specs.Decision.{decide, changes}
+use Rattle.lane.proofs.Mended.{none-past}
 use Rattle.lane.proofs.Rows.{split-below}
 use Rattle.shape.specs.declared.Shape.{Shape}
 use Rattle.shape.specs.Shape.{before, rows}
@@ -22,17 +21,12 @@ use Rattle.sums.proofs.WordBits.{number-same}
 use Rattle.block.proofs.Flips.{word-none}
 use Rattle.block.proofs.Blocks.{length-lanes}
 
-no-change : (m : ℕ) (f : Lane) (d : Decision) → Right m f d → (p : ℕ) → suc m < p → changes d p ≡ false
-no-change m f unchanged r p h = refl
-no-change m f lost r p h = refl
-no-change m f (flipped q) r p h = ne-eqb p q (λ e. omega (arith, r .1))
-
 pub mended-past : (shape : Shape) (block : List ℕ) (k : ℕ) → rows shape ≤ k → getD (mendedBlock shape block) k 0 ≡ getD block k 0
 unfolding mendedBlock mendedLanes
 mended-past shape block k h = by (lanesLost shape block)
   where
     untouched : (f : Lane) → changes (decide (before shape) f) (suc k) ≡ false
-    untouched f = no-change (before shape) f (decide (before shape) f) (decided (before shape) f) (suc k) (omega arith)
+    untouched f = none-past (before shape) f (suc k) (omega arith)
 
     lanes : getD (mendedLanes shape block) k 0 ≡ getD block k 0
     lanes =

@@ -1,12 +1,12 @@
--- What a call answers, in the specification's numbers. A refusal answers its number, with verdict and count 0. An accepted call answers number 0;
--- write then answers no verdict and no count, read and visit those of the block. Assumes nothing.
+-- What a call answers, in the specification's numbers. A refusal answers its number, with verdict and counts 0. An accepted call answers number 0;
+-- write then answers no verdict and no counts, read and visit those of the block. Assumes nothing.
 use Prim.Native.Nat.{ℕ}
 use mathlib.Core.List.{List}
 use mathlib.Core.Path.{_≡_}
 use Rattle.ground.specs.Choice.{ifZero}
 use Rattle.block.specs.declared.Verdict.{Verdict}
 use Rattle.block.specs.declared.Verdict.the-variants.{Clean}
-use Rattle.block.specs.Verdict.{verdictNumber, verdictCount, Said, unsaid, saidWords}
+use Rattle.block.specs.Verdict.{Said, saidOf, unsaid, saidWords}
 use Rattle.store.specs.declared.Answer.{Answer}
 use Rattle.store.specs.declared.Answer.the-variants.{Refused, Stored, Found}
 
@@ -15,20 +15,12 @@ answerNumber (Refused number) = number
 answerNumber Stored = 0
 answerNumber (Found verdict) = 0
 
-abbrev pub answerVerdict : Answer → ℕ
-answerVerdict (Refused number) = 0
-answerVerdict Stored = 0
-answerVerdict (Found verdict) = verdictNumber verdict
-
-abbrev pub answerCount : Answer → ℕ
-answerCount (Refused number) = 0
-answerCount Stored = 0
-answerCount (Found verdict) = verdictCount verdict
-
 abbrev pub answerSaid : Answer → Said
-answerSaid answer = record { verdict = answerVerdict answer; count = answerCount answer }
+answerSaid (Refused number) = unsaid
+answerSaid Stored = unsaid
+answerSaid (Found verdict) = saidOf verdict
 
--- verdict and count as words
+-- verdict and counts as words
 abbrev pub answerWords : Answer → List ℕ
 answerWords answer = saidWords (answerSaid answer)
 

@@ -6,7 +6,8 @@ use lib.ListN.{length}
 use Rattle.ground.specs.Choice.{ifZero}
 use Rattle.block.specs.Block.{mendedBlock}
 use Rattle.block.specs.declared.Verdict.{Verdict}
-use Rattle.block.specs.Verdict.{saidOf, saidBy, toSay, verdictOf}
+use Rattle.block.specs.declared.Verdict.the-variants.{Clean}
+use Rattle.block.specs.Verdict.{saidOf, toSay, verdictOf}
 use Rattle.store.specs.declared.Answer.{Answer}
 use Rattle.store.specs.declared.Answer.the-variants.{Found}
 use Rattle.store.specs.Answer.{Answers, answered}
@@ -29,7 +30,7 @@ pub record Visits (image : List ℕ) (layout : Layout) (block : ℕ) (answer : A
 
 -- the promise of visit_accepted: what is said, clean 0 where the visit is refused, and the image that a visit leaves
 pub record VisitsAccepted (image : List ℕ) (layout : Layout) (block : ℕ) (found : Verdict) (after : List ℕ) : Type 0 where
-  pub says : saidOf found ≡ ifZero (blockRefusal (length image) layout block) (toSay (shapeOf layout) (gathered layout block image)) (saidBy 0 0)
+  pub says : saidOf found ≡ ifZero (blockRefusal (length image) layout block) (toSay (shapeOf layout) (gathered layout block image)) (saidOf Clean)
   pub leaves : after ≡ visitAfter image layout block
 
 -- the answer itself

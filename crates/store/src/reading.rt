@@ -25,7 +25,7 @@ pub fn read(image: &[u32], layout: Layout, block: u32, buffer: &mut [u32]) -> An
             }
             let mut rows = [0u32; MOST_ROWS];
             let verdict = in_doubt(image, shape, at, s, &sums, &mut rows);
-            if let Verdict::Lost(_) = verdict {
+            if let Verdict::Lost(_, _) = verdict {
                 return Answer::Found(verdict);
             }
             block::data_of(shape, &rows, buffer);

@@ -12,14 +12,14 @@ use patrol::Report;
 use rota::Place;
 use store::Answer;
 
-// The number of a verdict, and its count: bits mended, or lanes lost.
+// The number of a verdict, and its two counts: bits mended and 0, or the lanes lost of each kind.
 fn verdict_words(verdict: Verdict) -> [u32; VERDICT_WORDS]
     ensures { λ r. ⌜ r ≡ verdictWords verdict ⌝ }
 {
     match verdict {
-        Verdict::Clean => [1, 0],
-        Verdict::Mended(bits) => [2, bits],
-        Verdict::Lost(lanes) => [3, lanes],
+        Verdict::Clean => [1, 0, 0],
+        Verdict::Mended(bits) => [2, bits, 0],
+        Verdict::Lost(even, beyond) => [3, even, beyond],
     }
 }
 

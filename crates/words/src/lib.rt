@@ -16,8 +16,8 @@ pub use files::written_words;
 pub use records::record_of;
 pub use records::record_words;
 
-// The number of a verdict, and its count.
-pub const VERDICT_WORDS: usize = 2;
+// The number of a verdict, and its two counts.
+pub const VERDICT_WORDS: usize = 3;
 
 // A block, and its verdict.
 const VISIT_WORDS: usize = 1 + VERDICT_WORDS;

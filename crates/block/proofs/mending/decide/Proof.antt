@@ -8,6 +8,7 @@ use lib.Count.{ones}
 use lib.ListN.{getD}
 use borrow.Author.Needs.{needs}
 use Rattle.lane.specs.Bit.{bit}
+use Rattle.lane.specs.Decision.{Kind, even, beyond}
 use Rattle.shape.specs.declared.Shape.{Shape}
 use Rattle.shape.specs.Shape.{before}
 use Rattle.shape.proofs.Sizes.{before-small, before-lt}
@@ -46,27 +47,28 @@ module _ (c : tie.After-above) where
   any-lt : anyOf 7 sums < 2 ^ 32
   any-lt = let h : c .before .any .result < 2 ^ 32 = omega arith in omega (arith, c .before .any .ensures)
 
-  abbrev lanes : ℕ
+  abbrev lanes : Kind → ℕ
   lanes = lostLanes (before shape) (getD sums 7 0) sums
 
-  lost-is : bitOr (bitAnd (c .before .any .result) ((2 ^ 32 - 1) - c .before .before .odd .result)) (bitAnd (c .before .before .odd .result) (c .above .result))
-      ≡ lanes
-  lost-is =
-      ap₂ bitOr (ap₂ (λ (x y : ℕ). bitAnd x ((2 ^ 32 - 1) - y)) (c .before .any .ensures) parity-is)
-      (ap₂ bitAnd parity-is (c .above .ensures ∙ ap (λ (t : ℕ). aboveOf t 7 sums) top-is))
+  even-is : bitAnd (c .before .any .result) ((2 ^ 32 - 1) - c .before .before .odd .result) ≡ lanes even
+  even-is = ap₂ (λ (x y : ℕ). bitAnd x ((2 ^ 32 - 1) - y)) (c .before .any .ensures) parity-is
 
-none-lost : (c : tie.Else1) → lanes (c .before) ≡ 0
-none-lost c = sym (lost-is (c .before)) ∙ c .if1 .left
+  beyond-is : bitAnd (c .before .before .odd .result) (c .above .result) ≡ lanes beyond
+  beyond-is = ap₂ bitAnd parity-is (c .above .ensures ∙ ap (λ (t : ℕ). aboveOf t 7 sums) top-is)
 
-some-lost : (c : tie.Then1) → lanes (c .before) ≡ 0 → ⊥
-some-lost c e = c .if1 .taken (lost-is (c .before) ∙ e)
+none-lost : (c : tie.Else1) → bitOr (lanes (c .before) even) (lanes (c .before) beyond) ≡ 0
+none-lost c = sym (ap₂ bitOr (even-is (c .before)) (beyond-is (c .before))) ∙ c .if1 .left
+
+some-lost : (c : tie.Then1) → bitOr (lanes (c .before) even) (lanes (c .before) beyond) ≡ 0 → ⊥
+some-lost c e = c .if1 .taken (ap₂ bitOr (even-is (c .before)) (beyond-is (c .before)) ∙ e)
 
 returns : tie.Need-returns
 returns c =
     let b = c .before in
+    let d = lost-decides (shape b) (sums b) (parity-lt b) (any-lt b) (block b) (some-lost c) in
     record {
-      says = ap (λ (w : ℕ). saidOf (Lost (ones w))) (lost-is b) ∙ lost-decides (shape b) (sums b) (parity-lt b) (any-lt b) (block b) (some-lost c) .says;
-      leaves = lost-decides (shape b) (sums b) (parity-lt b) (any-lt b) (block b) (some-lost c) .leaves;
+      says = ap₂ (λ (x y : ℕ). saidOf (Lost (ones x) (ones y))) (even-is b) (beyond-is b) ∙ d .says;
+      leaves = d .leaves;
     }
 
 returns-2 : tie.Need-returns-2

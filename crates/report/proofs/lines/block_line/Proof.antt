@@ -1,22 +1,14 @@
 -- `report::lines::block_line` meets its contract: the line put together is the one that is written. Assumes nothing.
-use Prim.Native.Nat.{_≤_}
 use native.Mathlib.Omega.{arith}
 use borrow.Author.Needs.{needs}
-use lib.ListN.{length, replicate}
-use Rattle.text.specs.Text.{ascii, lineEnd}
-use Rattle.text.proofs.Lines.{Line, empty, with-text, with-named, at-most, line-count, line-written}
-use Rattle.block.specs.declared.Verdict.{Verdict}
-use Rattle.block.specs.declared.Verdict.the-variants.{Clean, Mended, Lost}
-use Rattle.block.specs.Verdict.{verdictCount}
-use Rattle.report.specs.Lines.{verdictName, blockLine}
+use lib.ListN.{replicate}
+use Rattle.text.specs.Text.{lineEnd}
+use Rattle.text.proofs.Lines.{Line, empty, with-text, with-named, line-count, line-written}
+use Rattle.report.specs.Lines.{blockLine}
 use Rattle.block.proofs.Told.{count-fits}
+use Rattle.report.proofs.VerdictLine.{with-verdict}
 use Rattle.report.proofs.lines.block_line.Statement.{statement}
 use Rattle.report.proofs.lines.block_line.Tie as tie
-
-name-short : (v : Verdict) → length (ascii (verdictName v)) ≤ 8
-name-short Clean = omega arith
-name-short (Mended m) = omega arith
-name-short (Lost m) = omega arith
 
 -- the points of the walk, by the places in the line
 module _ (c : tie.After-put-text) where
@@ -30,15 +22,13 @@ module _ (c : tie.After-put-text) where
   start = after-block .before .before .before .before
 
   -- the line as it is put together
-  whole : Line 96 35 (blockLine (start .args .block) (start .args .verdict)) (c .put-text .last .1 .0) (c .put-text .result)
+  whole : Line 96 44 (blockLine (start .args .block) (start .args .verdict)) (c .put-text .last .1 .0) (c .put-text .result)
   unfolding blockLine
   whole =
       let v = start .args .verdict in
-      let fits = count-fits v _ (start .good .1 .0) in
-      let short = name-short v in
       let block = with-named (empty (replicate 96 0)) "block " (start .args .block) (after-block .put-named .ensures) (start .fits .block) (omega arith) in
-      let verdict = with-named block (verdictName v) (verdictCount v) (end .put-verdict .ensures) fits (omega arith) in
-      at-most (with-text verdict lineEnd (c .put-text .ensures) (omega arith)) 35 (omega arith)
+      let verdict = with-verdict block v (end .put-verdict .ensures) (count-fits v _ (start .good .1 .0)) (omega arith) in
+      with-text verdict lineEnd (c .put-text .ensures) (omega arith)
 
 slice-aggregate-put-named : tie.Need-slice-aggregate-put-named
 slice-aggregate-put-named c = search needs

@@ -1,5 +1,7 @@
 -- `report::lines::put_verdict` meets its contract: each verdict has its text. Assumes nothing.
+use mathlib.Core.Path.{ap, _∙_}
 use borrow.Author.Needs.{needs}
+use Rattle.report.specs.Inner.{putNamed}
 use Rattle.report.proofs.lines.put_verdict.Statement.{statement}
 use Rattle.report.proofs.lines.put_verdict.Tie as tie
 
@@ -30,6 +32,12 @@ slice-aggregate-put-named-3 c = search needs
 put-named-requires-3 : tie.Need-put-named-requires-3
 put-named-requires-3 c κs = search needs
 
+slice-aggregate-put-named-4 : tie.Need-slice-aggregate-put-named-4
+slice-aggregate-put-named-4 c = search needs
+
+put-named-requires-4 : tie.Need-put-named-requires-4
+put-named-requires-4 c κs = search needs
+
 same-length : tie.Need-same-length
 same-length c = search needs
 
@@ -51,8 +59,10 @@ same-length-3 c = search needs
 
 returns-3 : tie.Need-returns-3
 returns-3 c =
-    let put = c .before .before in
-    rw (put .before .before .before .before .verdict2 .given .1) (put .put-named3 .ensures)
+    let second = c .before .before in
+    let first = second .before .before .before .before .before in
+    let told = first .before .before .before .before in
+    rw (told .verdict2 .given .1) (second .put-named4 .ensures ∙ ap (putNamed " " _) (first .put-named3 .ensures))
 
 pub put-verdict-spec : {M : Type 1} → statement M
 put-verdict-spec =
@@ -67,6 +77,8 @@ put-verdict-spec =
     enum-known-verdict-2
     slice-aggregate-put-named-3
     put-named-requires-3
+    slice-aggregate-put-named-4
+    put-named-requires-4
     same-length
     returns
     same-length-2

@@ -84,7 +84,7 @@ module _ (c : tie.Start Inv-loop μ-loop) where
   finds = visit-finds (c .args .image .now) (c .args .layout) (c .pre)
 
   small : (k : ℕ) → verdictCount (verdicts k) ≤ 32
-  small = verdict-most (c .args .image .now) (c .args .layout)
+  small k = omega (arith, verdict-most (c .args .image .now) (c .args .layout) k)
 
   within : (k : ℕ) → Within k (tallies k)
   within = tally-within (c .args .image .now) (c .args .layout)

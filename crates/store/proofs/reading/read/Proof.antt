@@ -62,7 +62,7 @@ returns-3 : tie.Need-returns-3
 returns-3 c =
     let decided = c .before .before in
     let looked = exact (seen decided) in
-    read-lost _ (site (looked .before .before)) _ refl _ (decided .in-doubt .ensures .0) _ (fits looked) _ (c .enum-told .given .1)
+    read-lost _ (site (looked .before .before)) _ refl _ (decided .in-doubt .ensures .0) _ (fits looked) _ _ (c .enum-told .given .1)
 
 whole-copy : tie.Need-slice-aggregate-data-of
 whole-copy c = sym (mended-size _ _ _ _ (c .before .before .in-doubt .ensures .1))
