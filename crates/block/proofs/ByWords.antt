@@ -18,17 +18,20 @@ use Rattle.shape.specs.Shape.{before, rows}
 use Rattle.shape.proofs.Sizes.{rows-fit}
 use Rattle.ground.specs.Totals.{total}
 use Rattle.ground.proofs.Bools.{both}
+use Rattle.ground.proofs.Choices.{refused-kept}
 use Rattle.sums.specs.Words.{row}
-use Rattle.block.specs.Block.{dataBlock, validBlock, mendedBlock}
+use Rattle.block.specs.Block.{dataBlock, validBlock, lanesLost, mendedBlock}
 use Rattle.block.specs.Verdict.{verdictOf}
 use Rattle.sums.specs.Sums.{sumsOf}
 use Rattle.sums.specs.Inner.{xorRows, anyOf}
-use Rattle.block.specs.Inner.{lostLanes, flippedIn, xorAll, withChecks}
+use Rattle.block.specs.Inner.{aboveOf, lostLanes, namingLanes, flippedIn, xorAll, withChecks}
 use Rattle.sums.proofs.RowSums.{sums-are}
 use Rattle.sums.proofs.Doubt.{word-lt, any-lt}
 use Rattle.block.proofs.Lanes.{ones-total}
-use Rattle.block.proofs.Judged.{lost-as-lt, lost-decides, mended-decides}
-use Rattle.block.proofs.Decided.{decided}
+use Rattle.block.proofs.Blocks.{mended-kept}
+use Rattle.block.proofs.Judged.{lost-as-lt, above-lt, lost-decides, mended-decides, mends-lanes}
+use Rattle.block.proofs.Told.{lost-some, mended-none}
+use Rattle.block.proofs.Decided.{decided, lanes-mended}
 use Rattle.block.proofs.Data.{data-lt}
 use Rattle.block.proofs.Encoding.{built}
 
@@ -93,18 +96,26 @@ module _ (shape : Shape) (block : List ℕ) (fit : fit? block ≡ true) (long : 
   whole : rows shape ≤ length block
   whole = let h = rows-fit shape in omega arith
 
+  above-small : aboveOf (before shape) 7 sums < 2 ^ 32
+  above-small =
+      above-lt (before shape) 7 sums (λ k h. omega (arith, ap (λ (l : List ℕ). getD l k 0) are, word-lt shape block k (omega arith)))
+
   -- a lost block: how many lanes of each kind, and the block as it was
   pub lost-by-words : (bitOr (lost even) (lost beyond) ≡ 0 → ⊥)
       → (verdictOf shape block ≡ Lost (bits (lost even)) (bits (lost beyond))) × (mendedBlock shape block ≡ block)
+  unfolding mendedBlock
   lost-by-words ne =
-      let d = decided shape block whole are (lost-decides shape sums parity-lt any-small block ne) in
+      let says = decided shape block whole are (lost-decides shape sums parity-lt any-small ne) in
       let counted : (kind : Kind) → ones (lost kind) ≡ bits (lost kind) =
       λ kind. ones-total 32 (lost kind) (lost-as-lt shape sums parity-lt any-small kind) in
-      (sym (d .0) ∙ ap₂ Lost (counted even) (counted beyond), sym (d .1))
+      (sym says ∙ ap₂ Lost (counted even) (counted beyond), refused-kept (lanesLost shape block) _ block (lost-some shape block _ says _ _ refl))
 
   -- a mended block: how many odd lanes, and the row that each one's sum names flipped
   pub mended-by-words : bitOr (lost even) (lost beyond) ≡ 0 → (parity ≡ 0 → ⊥)
-      → (verdictOf shape block ≡ Mended (bits parity)) × (mendedBlock shape block ≡ flippedIn (before shape + 1) sums (λ i. bit i parity) block)
+      → (verdictOf shape block ≡ Mended (bits parity))
+      × (mendedBlock shape block ≡ flippedIn (rows shape) sums (λ i. bit i (namingLanes (before shape) parity sums)) block)
   mended-by-words z ne =
-      let d = decided shape block whole are (mended-decides shape sums parity-lt any-small block z ne) in
-      (sym (d .0) ∙ ap Mended (ones-total 32 parity parity-lt), sym (d .1))
+      let says = decided shape block whole are (mended-decides shape sums parity-lt any-small z ne) in (
+        sym says ∙ ap Mended (ones-total 32 parity parity-lt),
+        mended-kept shape block (mended-none shape block _ says _ refl) ∙ sym (lanes-mended shape block are (mends-lanes shape sums above-small block)),
+      )

@@ -11,7 +11,6 @@ use Rattle.lane.specs.Bit.{bit, pick}
 use Rattle.lane.specs.Lane.{sum, odd}
 use Rattle.lane.specs.Decision.{Kind, Decision, decision, decide, lost?, lostAs?, changes}
 use Rattle.lane.proofs.Bits.{bit-zero}
-use Rattle.ground.specs.Choice.{ifZero}
 use Rattle.ground.specs.Totals.{total}
 use Rattle.ground.proofs.Bools.{neither}
 use Rattle.ground.proofs.Lists.{listOf-same}
@@ -24,7 +23,7 @@ use Rattle.sums.specs.Words.{lane}
 use Rattle.block.specs.Block.{lanesLost, lanesLostAs, mendedLanes, mendedBlock, bitsChanged}
 use Rattle.block.specs.Verdict.{saidBy, toSay, verdictOf}
 use Rattle.sums.specs.Sums.{sumsOf, doubtful}
-use Rattle.block.specs.Sums.{decisionIn, lostIn, lostAsIn, oddCount, changedIn, Decides}
+use Rattle.block.specs.Sums.{decisionIn, lostIn, lostAsIn, oddCount, changedIn, Decides, MendsLanes}
 use Rattle.sums.proofs.WordBits.{number-same, bit-number}
 use Rattle.sums.proofs.Doubt.{odd-in, sum-in}
 use Rattle.block.proofs.Blocks.{AllKept, none-counted, kept-none, none-kept, mended-kept, changed-odd}
@@ -57,9 +56,9 @@ module _ (shape : Shape) (block : List ℕ) where
       listOf-same (length block) _ _
       (λ j l. ap (bitXor (getD block j 0)) (number-same 32 _ _ (λ i h. ap (λ (d : Decision). changes d (suc j)) (decision-in i h))))
 
-  mended-same : ifZero (lostIn shape sums) (changedIn shape sums block) block ≡ mendedBlock shape block
-  unfolding mendedBlock
-  mended-same = ap₂ (λ (n : ℕ) (l : List ℕ). ifZero n l block) lost-same changed-same
+  -- what is mended by them is the block with each lane mended
+  pub lanes-mended : {after given : List ℕ} → given ≡ sums → MendsLanes shape block given after → after ≡ mendedLanes shape block
+  lanes-mended are leaves = leaves ∙ ap (λ (l : List ℕ). changedIn shape l block) are ∙ changed-same
 
   odd-same : oddCount sums ≡ total 32 (λ i. pick (odd (rows shape) (lane i block)) 1)
   unfolding oddCount
@@ -70,17 +69,14 @@ module _ (shape : Shape) (block : List ℕ) where
     count-same none =
         odd-same ∙ sym (changed-odd shape block long (none-kept shape block none)) ∙ ap (bitsChanged shape block) (sym (mended-kept shape block none))
 
-    -- what is decided by them is to be said of the block, and is the block mended
-    pub decided : {v : Verdict} {after given : List ℕ} → given ≡ sums → Decides shape block given v after
-        → (v ≡ verdictOf shape block) × (after ≡ mendedBlock shape block)
+    -- what is decided by them is the verdict of the block
+    pub decided : {v : Verdict} {given : List ℕ} → given ≡ sums → Decides shape given v → v ≡ verdictOf shape block
     unfolding toSay
-    decided {v} are d = (
-      says-verdict shape block {v = v}
-          (d .says ∙ ap (λ (l : List ℕ). saidBy (lostIn shape l) (lostAsIn shape l) (oddCount l)) are
-          ∙ ap₂ (λ (n : ℕ) (kinds : Kind → ℕ). saidBy n kinds (oddCount sums)) lost-same kinds-same
-          ∙ said-same (lanesLost shape block) (lanesLostAs shape block) (oddCount sums) (bitsChanged shape block (mendedBlock shape block)) count-same),
-      d .leaves ∙ ap (λ (l : List ℕ). ifZero (lostIn shape l) (changedIn shape l block) block) are ∙ mended-same,
-    )
+    decided {v} are says =
+        says-verdict shape block {v = v}
+        (says ∙ ap (λ (l : List ℕ). saidBy (lostIn shape l) (lostAsIn shape l) (oddCount l)) are
+        ∙ ap₂ (λ (n : ℕ) (kinds : Kind → ℕ). saidBy n kinds (oddCount sums)) lost-same kinds-same
+        ∙ said-same (lanesLost shape block) (lanesLostAs shape block) (oddCount sums) (bitsChanged shape block (mendedBlock shape block)) count-same)
 
     -- ---- no doubtful lane
 

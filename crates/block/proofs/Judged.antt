@@ -1,36 +1,34 @@
--- The words decide as the definitions do, whichever eight words they are: lost, clean or mended, with its count. Assumes nothing.
-use Prim.Native.Nat.{ℕ, zero, suc, _+_, _-_, _^_, _<_}
-use mathlib.Core.Bool.{Bool, true, false, cond, _&&_, _||_, true≢false}
+-- The words decide and mend as the definitions do, whichever eight words they are. Assumes nothing.
+use Prim.Native.Nat.{ℕ, zero, suc, _-_, _^_, _<_}
+use mathlib.Core.Bool.{Bool, true, false, cond, not, _&&_, _||_}
 use mathlib.Core.Path.{_≡_, refl, sym, ap, ap₂, _∙_}
 use mathlib.Core.List.{List}
 use native.Mathlib.Nat.{mod-eq-of-lt}
-use native.Mathlib.Numerals.{add-one}
 use native.Mathlib.Omega.{arith}
-use lib.Bits.{bitXor, bitAnd, bitOr, and-le-l, or-lt, xor-zero-r}
+use lib.Bits.{bitXor, bitAnd, bitOr, and-le-l, and-lt, or-lt}
 use lib.Count.{ones}
 use lib.Dec.{eqb, ltb, leb, eqb·suc-zero, lit<}
 use lib.ListN.{length, getD}
-use borrow.Author.Tests.{leb-true}
+use lib.Pow.{pow-pos}
+use borrow.Author.Tests.{leb-true, leb-false, lt-ltb, le-ltb, ltb-false, not-true}
 use Rattle.lane.specs.Bit.{bit, pick}
 use Rattle.lane.specs.Decision.{Kind, even, beyond, flipped, lost, decision, lost?, lostAs?, changes}
 use Rattle.lane.proofs.Bits.{bit-zero, bit-and, bit-or, bit-not, bit-ext-below}
 use Rattle.lane.proofs.TwoKinds.{either-kind}
-use Rattle.ground.specs.Choice.{ifZero}
-use Rattle.ground.proofs.Choices.{refused-kept}
-use Rattle.ground.proofs.Lists.{list-is, listOf-same}
+use Rattle.ground.proofs.Bools.{both}
+use Rattle.ground.proofs.Lists.{listOf-same}
 use Rattle.ground.proofs.Totals.{total-same}
 use Rattle.shape.specs.declared.Shape.{Shape}
-use Rattle.shape.specs.Shape.{before}
+use Rattle.shape.specs.Shape.{before, rows}
 use Rattle.shape.proofs.Sizes.{before-small}
 use Rattle.block.specs.declared.Verdict.the-variants.{Clean, Mended, Lost}
 use Rattle.block.specs.Verdict.{saidOf, saidBy}
 use Rattle.sums.specs.Sums.{sumIn, oddIn}
-use Rattle.block.specs.Sums.{decisionIn, lostIn, lostAsIn, oddCount, changedIn, Decides}
+use Rattle.block.specs.Sums.{decisionIn, lostIn, lostAsIn, oddCount, changedIn, Decides, MendsLanes}
 use Rattle.sums.specs.Inner.{anyOf}
-use Rattle.block.specs.Inner.{aboveOf, lostLanes, rowNamed, flippedIn}
+use Rattle.block.specs.Inner.{aboveOf, lostLanes, namingLanes, rowNamed, flippedIn}
 use Rattle.sums.proofs.WordBits.{number-same}
 use Rattle.sums.proofs.Doubt.{bit-any}
-use Rattle.block.proofs.Flips.{word-none}
 use Rattle.block.proofs.Lanes.{bit-above, lostTest, lost-test, ones-total}
 use Rattle.block.proofs.Blocks.{counted-none, none-counted}
 
@@ -42,27 +40,27 @@ no-ones w h e =
 none-ones : ones 0 ≡ 0
 none-ones = ones-total 32 0 (lit< tt) ∙ none-counted 32 (λ i. bit i 0) (λ i l. bit-zero i)
 
--- an odd lane that is kept changes the row that its sum names, and an even one none
-pub changes-named : (m : ℕ) (o : Bool) (s p : ℕ) → lost? (decision m o s) ≡ false → o && eqb p (rowNamed (suc m) s) ≡ changes (decision m o s) p
+-- an odd lane whose sum names a row changes that row, and any other lane none
+changes-named : (m : ℕ) (o : Bool) (s p : ℕ) → (o && not (ltb m s)) && eqb p (rowNamed (suc m) s) ≡ changes (decision m o s) p
 unfolding decision
-changes-named m false zero p k = refl
-changes-named m false (suc s) p k = absurd (true≢false k)
-changes-named m true zero p k = refl
-changes-named m true (suc s) p k = rw (eqb·suc-zero s) (go (leb (suc s) m) k)
+changes-named m false zero p = refl
+changes-named m false (suc s) p = refl
+changes-named m true zero p = rw (le-ltb m 0 (omega arith))
+changes-named m true (suc s) p = rw (eqb·suc-zero s) (go (leb (suc s) m) refl)
   where
-    go : (t : Bool) → lost? (cond t (flipped (suc s)) (lost beyond)) ≡ false → eqb p (suc s) ≡ changes (cond t (flipped (suc s)) (lost beyond)) p
-    go true k = refl
-    go false k = absurd (true≢false k)
+    go : (t : Bool) → leb (suc s) m ≡ t → not (ltb m (suc s)) && eqb p (suc s) ≡ changes (cond t (flipped (suc s)) (lost beyond)) p
+    go true e = rw (le-ltb m (suc s) (leb-true (suc s) m e))
+    go false e = rw (lt-ltb m (suc s) (leb-false (suc s) m e))
 
--- a kept odd lane's sum is at most the rows before the last
-kept-low : (m s : ℕ) → lost? (decision m true s) ≡ false → s < m + 1
-unfolding decision
-kept-low m zero k = omega arith
-kept-low m (suc s) k = go (leb (suc s) m) refl k
+-- the lanes above some number are a word as the digits are
+pub above-lt : (top n : ℕ) (digits : List ℕ) → ((k : ℕ) → k < n → getD digits k 0 < 2 ^ 32) → aboveOf top n digits < 2 ^ 32
+unfolding aboveOf
+above-lt top zero digits h = pow-pos 32
+above-lt top (suc k) digits h = by (bit k top) (aboveOf top k digits) (above-lt top k digits (λ j l. h j (omega arith)))
   where
-    go : (t : Bool) → leb (suc s) m ≡ t → lost? (cond t (flipped (suc s)) (lost beyond)) ≡ false → suc s < m + 1
-    go true e k = let h = leb-true (suc s) m e in omega arith
-    go false e k = absurd (true≢false k)
+    by : (t : Bool) (rest : ℕ) → rest < 2 ^ 32 → cond t (bitAnd rest (getD digits k 0)) (bitOr rest (getD digits k 0)) < 2 ^ 32
+    by true rest l = and-lt 32 rest (getD digits k 0) l (h k (omega arith))
+    by false rest l = or-lt 32 rest (getD digits k 0) l (h k (omega arith))
 
 -- what is said by the numbers of lanes lost and bits changed
 said-lost : (n : ℕ) (kinds : Kind → ℕ) (c : ℕ) → (n ≡ 0 → ⊥) → saidOf (Lost (kinds even) (kinds beyond)) ≡ saidBy n kinds c
@@ -123,71 +121,50 @@ module _ (shape : Shape) (sums : List ℕ) where
     unfolding oddCount
     odd-count = ones-total 32 parity hp
 
-    -- ---- lost
+    -- ---- what is said
 
-    pub lost-decides : (block : List ℕ) → (lostWord ≡ 0 → ⊥) → Decides shape block sums (Lost (ones (lostAs even)) (ones (lostAs beyond))) block
-    lost-decides block some =
-        let ne : lostIn shape sums ≡ 0 → ⊥ = λ z. some (no-ones lostWord lost-lt (lost-count ∙ z)) in
-        record {
-          says =
-              ap₂ (λ (e b : ℕ). saidOf (Lost e b)) (kind-count even) (kind-count beyond)
-              ∙ said-lost (lostIn shape sums) (lostAsIn shape sums) (oddCount sums) ne;
-          leaves = sym (refused-kept (lostIn shape sums) (changedIn shape sums block) block ne);
-        }
+    pub lost-decides : (lostWord ≡ 0 → ⊥) → Decides shape sums (Lost (ones (lostAs even)) (ones (lostAs beyond)))
+    lost-decides some =
+        ap₂ (λ (e b : ℕ). saidOf (Lost e b)) (kind-count even) (kind-count beyond)
+        ∙ said-lost (lostIn shape sums) (lostAsIn shape sums) (oddCount sums) (λ z. some (no-ones lostWord lost-lt (lost-count ∙ z)))
 
-    -- ---- none lost
-
-    module _ (block : List ℕ) (no-lost : lostWord ≡ 0) where
+    module _ (no-lost : lostWord ≡ 0) where
       none : lostIn shape sums ≡ 0
       none = sym lost-count ∙ ap ones no-lost ∙ none-ones
 
-      kept : (i : ℕ) → i < 32 → lost? (decisionIn shape sums i) ≡ false
-      kept i hi = sym (lane-lost i hi) ∙ ap (bit i) no-lost ∙ bit-zero i
-
-      pub named-low : (i : ℕ) → i < 32 → bit i parity ≡ true → sumIn sums i < m + 1
-      named-low i hi e = kept-low m (sumIn sums i) (sym (ap (λ (o : Bool). lost? (decision m o (sumIn sums i))) e) ∙ kept i hi)
-
-      flips : flippedIn (m + 1) sums (λ i. bit i parity) block ≡ changedIn shape sums block
-      unfolding flippedIn changedIn
-      flips =
-          listOf-same (length block) _ _
-          (λ j h.
-          ap (bitXor (getD block j 0))
-          (number-same 32 _ _
-          (λ i hi.
-          ap (λ (n : ℕ). bit i parity && eqb (suc j) (rowNamed n (sumIn sums i))) (add-one m)
-          ∙ changes-named m (oddIn sums i) (sumIn sums i) (suc j) (kept i hi))))
-
-      pub mended-decides : (parity ≡ 0 → ⊥) → Decides shape block sums (Mended (ones parity)) (flippedIn (m + 1) sums (λ i. bit i parity) block)
+      pub mended-decides : (parity ≡ 0 → ⊥) → Decides shape sums (Mended (ones parity))
       mended-decides some =
-          record {
-            says =
-                ap (λ (n : ℕ). saidOf (Mended n)) odd-count
-                ∙ said-mended (oddCount sums) (lostAsIn shape sums) (λ z. some (no-ones parity hp (odd-count ∙ z)))
-                ∙ ap (λ (n : ℕ). saidBy n (lostAsIn shape sums) (oddCount sums)) (sym none);
-            leaves = flips ∙ ap (λ (n : ℕ). ifZero n (changedIn shape sums block) block) (sym none);
-          }
+          ap (λ (n : ℕ). saidOf (Mended n)) odd-count
+          ∙ said-mended (oddCount sums) (lostAsIn shape sums) (λ z. some (no-ones parity hp (odd-count ∙ z)))
+          ∙ ap (λ (n : ℕ). saidBy n (lostAsIn shape sums) (oddCount sums)) (sym none)
 
-      -- an even lane that is kept changes no row
-      still : parity ≡ 0 → changedIn shape sums block ≡ block
-      unfolding changedIn
-      still z =
-          sym
-          (list-is (length block) block _ refl
-          (λ j l.
-          sym (xor-zero-r (getD block j 0))
-          ∙ ap (bitXor (getD block j 0))
-          (sym
-          (number-same 32 _ (λ i. false)
-          (λ i hi.
-          sym (changes-named m (oddIn sums i) (sumIn sums i) (suc j) (kept i hi))
-          ∙ ap (λ (o : Bool). o && eqb (suc j) (rowNamed (suc m) (sumIn sums i))) (ap (bit i) z ∙ bit-zero i))
-          ∙ word-none))))
+      pub clean-decides : parity ≡ 0 → Decides shape sums Clean
+      clean-decides z = ap₂ (λ (n c : ℕ). saidBy n (lostAsIn shape sums) c) (sym none) (sym (sym odd-count ∙ ap ones z ∙ none-ones))
 
-      pub clean-decides : parity ≡ 0 → Decides shape block sums Clean block
-      clean-decides z =
-          record {
-            says =
-                ap₂ (λ (n c : ℕ). saidBy n (lostAsIn shape sums) c) (sym none) (sym (sym odd-count ∙ ap ones z ∙ none-ones));
-            leaves = sym (still z) ∙ ap (λ (n : ℕ). ifZero n (changedIn shape sums block) block) (sym none);
-          }
+  -- ---- what is mended
+
+  module _ (above-lt : aboveOf m 7 sums < 2 ^ 32) where
+    abbrev naming : ℕ
+    naming = namingLanes m parity sums
+
+    lane-naming : (i : ℕ) → i < 32 → bit i naming ≡ oddIn sums i && not (ltb m (sumIn sums i))
+    lane-naming i hi =
+        bit-and i parity ((2 ^ 32 - 1) - aboveOf m 7 sums)
+        ∙ ap (λ (b : Bool). bit i parity && b) (bit-not 32 i (aboveOf m 7 sums) hi above-lt ∙ ap not (lane-above i))
+
+    -- the sum of such a lane is that of a row
+    pub named-low : (i : ℕ) → i < 32 → bit i naming ≡ true → sumIn sums i < rows shape
+    named-low i hi e =
+        let low = both (oddIn sums i) (not (ltb m (sumIn sums i))) (sym (lane-naming i hi) ∙ e) .1 in
+        omega (arith, ltb-false m (sumIn sums i) (not-true (ltb m (sumIn sums i)) low))
+
+    pub mends-lanes : (block : List ℕ) → MendsLanes shape block sums (flippedIn (rows shape) sums (λ i. bit i naming) block)
+    unfolding flippedIn changedIn
+    mends-lanes block =
+        listOf-same (length block) _ _
+        (λ j h.
+        ap (bitXor (getD block j 0))
+        (number-same 32 _ _
+        (λ i hi.
+        ap (λ (b : Bool). b && eqb (suc j) (rowNamed (rows shape) (sumIn sums i))) (lane-naming i hi)
+        ∙ changes-named m (oddIn sums i) (sumIn sums i) (suc j))))

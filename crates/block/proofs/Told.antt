@@ -44,6 +44,11 @@ module _ (kinds : Kind → ℕ) where
   some-lost zero (suc changed) e b says z = let w : _≡_ {A = ℕ} 0 1 = cc in omega arith
   some-lost (suc lost) changed e b says z = omega arith
 
+  -- mended: none is
+  none-mended : (lost changed m : ℕ) → verdict lost kinds changed ≡ Mended m → lost ≡ 0
+  none-mended zero changed m says = refl
+  none-mended (suc lost) changed m says = let w : _≡_ {A = ℕ} 0 1 = cc in absurd (omega arith)
+
   -- not lost: no lane is
   none-lost : (lost changed : ℕ) → NotLost (verdict lost kinds changed) → lost ≡ 0
   none-lost zero changed keys = refl
@@ -165,6 +170,10 @@ module _ (shape : Shape) (block : List ℕ) where
     pub lost-some : (e b : ℕ) → v ≡ Lost e b → lanesLost shape block ≡ 0 → ⊥
     unfolding verdictOf
     lost-some e b l = some-lost (lanesLostAs shape block) (lanesLost shape block) _ e b (sym says ∙ l)
+
+    pub mended-none : (m : ℕ) → v ≡ Mended m → lanesLost shape block ≡ 0
+    unfolding verdictOf
+    mended-none m says-so = none-mended (lanesLostAs shape block) (lanesLost shape block) _ m (sym says ∙ says-so)
 
     pub not-lost : NotLost v → lanesLost shape block ≡ 0
     unfolding verdictOf

@@ -43,6 +43,10 @@ abbrev pub lostLanes : ℕ → ℕ → List ℕ → Kind → ℕ
 lostLanes top parity digits even = bitAnd (anyOf 7 digits) ((2 ^ 32 - 1) - parity)
 lostLanes top parity digits beyond = bitAnd parity (aboveOf top 7 digits)
 
+-- the lanes that are odd with a sum that names a row
+abbrev pub namingLanes : ℕ → ℕ → List ℕ → ℕ
+namingLanes top parity digits = bitAnd parity ((2 ^ 32 - 1) - aboveOf top 7 digits)
+
 -- the row that an odd lane's sum names
 abbrev pub rowNamed : ℕ → ℕ → ℕ
 rowNamed last sum = cond (eqb sum 0) last sum

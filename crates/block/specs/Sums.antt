@@ -6,7 +6,6 @@ use lib.Bits.{bitXor}
 use lib.ListN.{length, getD}
 use Rattle.lane.specs.Bit.{pick}
 use Rattle.lane.specs.Decision.{Kind, Decision, decision, lost?, lostAs?, changes}
-use Rattle.ground.specs.Choice.{ifZero}
 use Rattle.ground.specs.Lists.{listOf}
 use Rattle.ground.specs.Totals.{total}
 use Rattle.shape.specs.declared.Shape.{Shape}
@@ -37,12 +36,15 @@ lostAsIn shape sums kind = total 32 (λ i. pick (lostAs? kind (decisionIn shape 
 unfoldable pub oddCount : List ℕ → ℕ
 oddCount sums = total 32 (λ i. pick (oddIn sums i) 1)
 
--- the block with the row that each lane's decision names changed in that lane
+-- the block with the row that each lane's decision names changed in that lane; a lost lane's names none
 unfoldable pub changedIn : Shape → List ℕ → List ℕ → List ℕ
 changedIn shape sums block =
     listOf (length block) (λ j. bitXor (getD block j 0) (word (λ i. changes (decisionIn shape sums i) (suc j))))
 
--- the promise of decide: what it says, and the block that it leaves
-pub record Decides (shape : Shape) (block sums : List ℕ) (found : Verdict) (after : List ℕ) : Type 0 where
-  pub says : saidOf found ≡ saidBy (lostIn shape sums) (lostAsIn shape sums) (oddCount sums)
-  pub leaves : after ≡ ifZero (lostIn shape sums) (changedIn shape sums block) block
+-- the promise of decide: what it says
+abbrev pub Decides : Shape → List ℕ → Verdict → Type 0
+Decides shape sums found = saidOf found ≡ saidBy (lostIn shape sums) (lostAsIn shape sums) (oddCount sums)
+
+-- the promise of mend: the block that it leaves
+abbrev pub MendsLanes : Shape → List ℕ → List ℕ → List ℕ → Type 0
+MendsLanes shape block sums after = after ≡ changedIn shape sums block

@@ -7,6 +7,7 @@ pub use coding::data_into;
 pub use coding::data_of;
 pub use coding::encode;
 pub use mending::decide;
+pub use mending::mend;
 
 pub enum Verdict {
     Clean,

@@ -1,18 +1,18 @@
-// The full decision on a gathered block, and its mending, before anything is stored.
+// The full decision on a block by its sums, and the mending of a gathered one, before anything is stored.
 ghost use mathlib.Core.Path.{_≡_};
 ghost use mathlib.Core.Bool.{true};
 ghost use Prim.Native.Nat.{ℕ, _≤_, _<_};
 ghost use lib.ListN.{getD};
 ghost use Rattle.lane.specs.Bit.{bit};
-ghost use Rattle.shape.specs.Shape.{mostRows};
+ghost use Rattle.shape.specs.Shape.{before, mostRows};
 ghost use Rattle.sums.specs.Sums.{sumIn};
-ghost use Rattle.block.specs.Sums.{Decides};
+ghost use Rattle.block.specs.Sums.{Decides, MendsLanes};
 ghost use Rattle.sums.specs.Inner.{anyOf};
 ghost use Rattle.block.specs.Inner.{aboveOf, rowNamed, flippedIn};
 use super::Verdict;
 use shape::MOST_ROWS;
 use shape::Shape;
-use shape::rows_before;
+use shape::rows;
 use sums::DIGITS;
 use sums::SUM_WORDS;
 
@@ -30,23 +30,14 @@ fn odd(sums: &[u32; SUM_WORDS]) -> u32
     sums[DIGITS]
 }
 
-// The lanes whose sum is above `top`.
-fn above(sums: &[u32; SUM_WORDS], top: usize) -> u32
-    ensures { λ r. ⌜ r ≡ aboveOf top 7 (now (sums .entry)) ⌝ }
+// The lanes whose sum is above the rows before the last: 16 or more in shape 1, 72 or more in shape 2.
+fn above(shape: Shape, sums: &[u32; SUM_WORDS]) -> u32
+    ensures { λ r. ⌜ r ≡ aboveOf (before shape) 7 (now (sums .entry)) ⌝ }
 {
-    let mut lanes: u32 = 0;
-    let mut rest = top;
-    let mut k = 0;
-    while k < DIGITS {
-        if rest % 2 == 1 {
-            lanes &= sums[k];
-        } else {
-            lanes |= sums[k];
-        }
-        rest /= 2;
-        k += 1;
+    match shape {
+        Shape::One => sums[4] | sums[5] | sums[6],
+        Shape::Two => (sums[3] | sums[4] | sums[5]) & sums[6],
     }
-    lanes
 }
 
 // The row that the sum of lane `i` names: the last where the sum is 0.
@@ -82,20 +73,26 @@ fn flip_named(block: &mut [u32; MOST_ROWS], sums: &[u32; SUM_WORDS], parity: u32
     }
 }
 
-// Decides a gathered block by its sums, and mends it where no lane is lost.
-pub fn decide(shape: Shape, block: &mut [u32; MOST_ROWS], sums: &[u32; SUM_WORDS]) -> Verdict
-    ensures { λ r. ⌜ Decides shape (now (block .entry)) (now (sums .entry)) r (now (block .exit)) ⌝ }
+// Decides a block by its sums.
+pub fn decide(shape: Shape, sums: &[u32; SUM_WORDS]) -> Verdict
+    ensures { λ r. ⌜ Decides shape (now (sums .entry)) r ⌝ }
 {
-    let top = rows_before(shape);
     let parity = odd(sums);
     let even = any(sums) & !parity;
-    let beyond = parity & above(sums, top);
+    let beyond = parity & above(shape, sums);
     if even | beyond != 0 {
         return Verdict::Lost(u32::count_ones(even), u32::count_ones(beyond));
     }
     if parity == 0 {
         return Verdict::Clean;
     }
-    flip_named(block, sums, parity, top + 1);
     Verdict::Mended(u32::count_ones(parity))
+}
+
+// Mends a gathered block by its sums, in every lane that is not lost.
+pub fn mend(shape: Shape, block: &mut [u32; MOST_ROWS], sums: &[u32; SUM_WORDS])
+    ensures { λ r. ⌜ MendsLanes shape (now (block .entry)) (now (sums .entry)) (now (block .exit)) ⌝ }
+{
+    let lanes = odd(sums) & !above(shape, sums);
+    flip_named(block, sums, lanes, rows(shape));
 }

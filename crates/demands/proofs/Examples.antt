@@ -1,5 +1,5 @@
 -- Every worked example holds of the definitions: the laws turn each into words, and the words are computed. Assumes nothing.
-use Prim.Native.Nat.{ℕ, suc, _+_}
+use Prim.Native.Nat.{ℕ, suc}
 use mathlib.Core.Bool.{true}
 use mathlib.Core.Path.{_≡_, refl, sym, ap, ap₂, _∙_}
 use mathlib.Core.List.{List, _∷_, _++_, map}
@@ -15,12 +15,12 @@ use Rattle.lane.specs.Rows.{power?, rowsWhere}
 use Rattle.shape.specs.declared.Shape.{Shape}
 use Rattle.block.specs.declared.Verdict.{Verdict}
 use Rattle.block.specs.declared.Verdict.the-variants.{Mended, Lost}
-use Rattle.shape.specs.Shape.{before}
+use Rattle.shape.specs.Shape.{before, rows}
 use Rattle.sums.specs.Words.{number}
 use Rattle.block.specs.Block.{dataBlock, validBlock, mendedBlock}
 use Rattle.block.specs.Verdict.{Said, toSay, saidWords, verdictOf, verdictWords}
 use Rattle.sums.specs.Inner.{xorRows, anyOf}
-use Rattle.block.specs.Inner.{aboveOf, lostLanes, flippedIn, xorAll, withChecks}
+use Rattle.block.specs.Inner.{aboveOf, lostLanes, namingLanes, flippedIn, xorAll, withChecks}
 use Rattle.block.proofs.Verdicts.{verdict-says}
 use Rattle.block.proofs.ByWords.{fit?, bits, rowSums, written, lost-by-words, mended-by-words}
 use Rattle.layout.specs.Layout.{shapeNumbered}
@@ -56,7 +56,10 @@ module _ (shape : Shape) where
     -- a mended block, by the word of its odd lanes
     was-mended : (n w : ℕ) (after : List ℕ) → bitOr (lostWord even) (lostWord beyond) ≡ 0 → getD (rowSums shape found) 7 0 ≡ suc w
         → bits (getD (rowSums shape found) 7 0) ≡ n
-        → flippedIn (before shape + 1) (rowSums shape found) (λ i. bit i (getD (rowSums shape found) 7 0)) found ≡ after
+        → flippedIn (rows shape) (rowSums shape found)
+        (λ i. bit i (namingLanes (before shape) (getD (rowSums shape found) 7 0) (rowSums shape found)))
+        found
+        ≡ after
         → _≡_ {A = List ℕ} (saidWords (toSay shape found) ++ mendedBlock shape found) (verdictWords (Mended n) ++ after)
     was-mended n w after z s c e =
         said found _ _ (mended-by-words shape found fit long z (λ q. omega (arith, s))) ∙ ap₂ (λ (k : ℕ) (l : List ℕ). verdictWords (Mended k) ++ l) c e

@@ -16,7 +16,7 @@ use Rattle.shape.specs.Shape.{before, CountsBefore, CountsRows, CountsWords}
 use Rattle.block.specs.declared.Verdict.{Verdict}
 use Rattle.block.specs.Block.{Encodes}
 use Rattle.sums.specs.Sums.{lying, sumsOf, Looks}
-use Rattle.block.specs.Sums.{Decides, CopiesData}
+use Rattle.block.specs.Sums.{Decides, MendsLanes, CopiesData}
 use Rattle.block.proofs.Verdicts.{said-told}
 use Rattle.layout.specs.declared.Layout.{Layout}
 use Rattle.layout.specs.declared.Site.{Site}
@@ -83,9 +83,11 @@ one-beside list at lent p q = one-look Two list at 1 lent p q
 pub one-encode : (shape : Shape) (list : List ℕ) {a b : List ℕ} → Encodes shape list a → Encodes shape list b → a ≡ b
 one-encode shape list p q = same p q
 
-pub one-decide : (shape : Shape) (block sums : List ℕ) {v w : Verdict} {a b : List ℕ} → Decides shape block sums v a → Decides shape block sums w b
-    → (v ≡ w) × (a ≡ b)
-one-decide shape block sums {v} {w} p q = (said-told v w (same (p .says) (q .says)), same (p .leaves) (q .leaves))
+pub one-decide : (shape : Shape) (sums : List ℕ) {v w : Verdict} → Decides shape sums v → Decides shape sums w → v ≡ w
+one-decide shape sums {v} {w} p q = said-told v w (same p q)
+
+pub one-mend : (shape : Shape) (block sums : List ℕ) {a b : List ℕ} → MendsLanes shape block sums a → MendsLanes shape block sums b → a ≡ b
+one-mend shape block sums p q = same p q
 
 pub one-data-into : (shape : Shape) (list : List ℕ) (at s : ℕ) (buffer : List ℕ) {a b : List ℕ} → CopiesData shape list at s buffer a
     → CopiesData shape list at s buffer b → a ≡ b

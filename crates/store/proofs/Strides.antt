@@ -11,13 +11,14 @@ use Rattle.shape.specs.Shape.{before, rows}
 use Rattle.ground.proofs.Stores.{length-stores, stores-hit, stores-same}
 use Rattle.ground.proofs.Choices.{refused-kept}
 use Rattle.ground.proofs.Lists.{getD-listOf}
-use Rattle.block.specs.Block.{blank, mendedBlock, SameRows, dataInto}
+use Rattle.ground.specs.Choice.{ifZero}
+use Rattle.block.specs.Block.{blank, lanesLost, mendedLanes, mendedBlock, SameRows, dataInto}
 use Rattle.block.specs.Verdict.{verdictOf}
 use Rattle.sums.specs.Sums.{lying, sumsOf, Looks}
-use Rattle.block.specs.Sums.{CopiesData, Decides}
+use Rattle.block.specs.Sums.{CopiesData, Decides, MendsLanes}
 use Rattle.shape.proofs.Sizes.{rows-fit, before-lt}
-use Rattle.block.proofs.Blocks.{length-mended}
-use Rattle.block.proofs.Decided.{decided, clean-verdict}
+use Rattle.block.proofs.Blocks.{length-mended, mended-kept}
+use Rattle.block.proofs.Decided.{decided, lanes-mended, clean-verdict}
 use Rattle.block.proofs.Alike.{sums-alike, doubt-alike, data-alike}
 use Rattle.store.specs.Inner.{Inside, strideRead, strideWrite}
 use Rattle.block.proofs.Told.{NotMended, not-mended}
@@ -43,11 +44,23 @@ module _ (image : List ℕ) (shape : Shape) (at s : ℕ) where
       rw (not-mended shape (strideRead image at s blank (rows shape)) v says read-long keys)
       (sym (stores-same image (λ k. at + k * s) (λ k. getD (strideRead image at s blank (rows shape)) k 0) (rows shape) read-row))
 
-  -- what is decided of the rows that are read, by their sums
-  pub decided-there : {gathered mended sums : List ℕ} {v : Verdict} → sums ≡ sumsOf shape (strideRead image at s blank (rows shape))
-      → gathered ≡ strideRead image at s blank (rows shape) → Decides shape gathered sums v mended
-      → (v ≡ verdictOf shape (strideRead image at s blank (rows shape))) × (mended ≡ mendedBlock shape (strideRead image at s blank (rows shape)))
-  decided-there are took d = decided shape (strideRead image at s blank (rows shape)) read-long are (rw took at d)
+  -- what is decided and mended of the rows that are read, by their sums
+  module _ {sums : List ℕ} (are : sums ≡ sumsOf shape (strideRead image at s blank (rows shape))) where
+    pub decided-there : {v : Verdict} → Decides shape sums v → v ≡ verdictOf shape (strideRead image at s blank (rows shape))
+    decided-there says = decided shape (strideRead image at s blank (rows shape)) read-long are says
+
+    pub mended-there : {gathered mended : List ℕ} → gathered ≡ strideRead image at s blank (rows shape) → MendsLanes shape gathered sums mended
+        → mended ≡ mendedLanes shape (strideRead image at s blank (rows shape))
+    mended-there took leaves = lanes-mended shape (strideRead image at s blank (rows shape)) are (rw took at leaves)
+
+  -- where no lane is lost, the rows that are taken out are the block mended
+  pub mended-whole : {mended : List ℕ} → lanesLost shape (strideRead image at s blank (rows shape)) ≡ 0
+      → mended ≡ ifZero (lanesLost shape (strideRead image at s blank (rows shape))) (mendedLanes shape (strideRead image at s blank (rows shape))) blank
+      → mended ≡ mendedBlock shape (strideRead image at s blank (rows shape))
+  mended-whole none e =
+      e
+      ∙ ap (λ (n : ℕ). ifZero n (mendedLanes shape (strideRead image at s blank (rows shape))) blank) none
+      ∙ sym (mended-kept shape (strideRead image at s blank (rows shape)) none)
 
   pub mended-size : {mended : List ℕ} → mended ≡ mendedBlock shape (strideRead image at s blank (rows shape)) → length mended ≡ 72
   mended-size e = ap length e ∙ length-mended shape (strideRead image at s blank (rows shape)) ∙ read-size

@@ -1,8 +1,9 @@
-// A block in doubt: gathered, and decided whole.
+// A block in doubt: decided whole by its sums, then gathered and mended.
 ghost use mathlib.Core.Path.{_≡_};
 ghost use lib.ListN.{length};
 ghost use Rattle.shape.specs.Shape.{rows};
-ghost use Rattle.block.specs.Block.{blank, mendedBlock};
+ghost use Rattle.ground.specs.Choice.{ifZero};
+ghost use Rattle.block.specs.Block.{blank, lanesLost, mendedLanes};
 ghost use Rattle.block.specs.Verdict.{verdictOf};
 ghost use Rattle.sums.specs.Sums.{sumsOf};
 ghost use Rattle.store.specs.Inner.{Inside, strideRead};
@@ -12,7 +13,7 @@ use shape::MOST_ROWS;
 use shape::Shape;
 use sums::SUM_WORDS;
 
-// What the block is by its sums, and its rows, mended where none of its lanes is lost.
+// What the block is, and its rows mended; where a lane is lost they are not taken out.
 pub(crate) fn in_doubt(
     image: &[u32],
     shape: Shape,
@@ -24,8 +25,14 @@ pub(crate) fn in_doubt(
     requires { ⌜ Inside (length (now image)) (rows shape) at s × (now sums ≡ sumsOf shape (strideRead (now image) at s blank (rows shape)))
         × (now mended ≡ blank) ⌝ }
     ensures verdict { λ r. ⌜ r ≡ verdictOf shape (strideRead (now (image .entry)) at s blank (rows shape)) ⌝ }
-    ensures mended { λ r. ⌜ now (mended .exit) ≡ mendedBlock shape (strideRead (now (image .entry)) at s blank (rows shape)) ⌝ }
+    ensures mended { λ r. ⌜ now (mended .exit) ≡ ifZero (lanesLost shape (strideRead (now (image .entry)) at s blank (rows shape)))
+        (mendedLanes shape (strideRead (now (image .entry)) at s blank (rows shape))) blank ⌝ }
 {
+    let verdict = block::decide(shape, sums);
+    if let Verdict::Lost(_, _) = verdict {
+        return verdict;
+    }
     gather(&*image, shape, at, s as usize, mended);
-    block::decide(shape, mended, sums)
+    block::mend(shape, mended, sums);
+    verdict
 }

@@ -1,5 +1,5 @@
 -- `block::mending::decide` meets its contract: the words decide as the definitions do. Assumes nothing.
-use Prim.Native.Nat.{ℕ, _+_, _-_, _^_, _<_}
+use Prim.Native.Nat.{ℕ, _-_, _^_, _<_}
 use mathlib.Core.Path.{_≡_, sym, ap, ap₂, _∙_}
 use mathlib.Core.List.{List}
 use native.Mathlib.Omega.{arith}
@@ -7,16 +7,14 @@ use lib.Bits.{bitAnd, bitOr}
 use lib.Count.{ones}
 use lib.ListN.{getD}
 use borrow.Author.Needs.{needs}
-use Rattle.lane.specs.Bit.{bit}
 use Rattle.lane.specs.Decision.{Kind, even, beyond}
 use Rattle.shape.specs.declared.Shape.{Shape}
 use Rattle.shape.specs.Shape.{before}
-use Rattle.shape.proofs.Sizes.{before-small, before-lt}
 use Rattle.block.specs.declared.Verdict.the-variants.{Mended, Lost}
 use Rattle.block.specs.Verdict.{saidOf}
 use Rattle.sums.specs.Inner.{anyOf}
-use Rattle.block.specs.Inner.{aboveOf, lostLanes, flippedIn}
-use Rattle.block.proofs.Judged.{lost-decides, clean-decides, mended-decides, named-low}
+use Rattle.block.specs.Inner.{lostLanes}
+use Rattle.block.proofs.Judged.{lost-decides, clean-decides, mended-decides}
 use Rattle.block.proofs.mending.decide.Statement.{statement}
 use Rattle.block.proofs.mending.decide.Tie as tie
 
@@ -24,19 +22,13 @@ use Rattle.block.proofs.mending.decide.Tie as tie
 
 module _ (c : tie.After-above) where
   abbrev start : tie.Start
-  start = c .before .before .before .before
+  start = c .before .before .before
 
   abbrev shape : Shape
   shape = start .args .shape
 
-  abbrev block : List ℕ
-  block = start .args .block .now
-
   abbrev sums : List ℕ
   sums = start .args .sums .now
-
-  top-is : c .before .before .before .rows-before .result ≡ before shape
-  top-is = c .before .before .before .rows-before .ensures
 
   parity-is : c .before .before .odd .result ≡ getD sums 7 0
   parity-is = c .before .before .odd .ensures
@@ -54,7 +46,7 @@ module _ (c : tie.After-above) where
   even-is = ap₂ (λ (x y : ℕ). bitAnd x ((2 ^ 32 - 1) - y)) (c .before .any .ensures) parity-is
 
   beyond-is : bitAnd (c .before .before .odd .result) (c .above .result) ≡ lanes beyond
-  beyond-is = ap₂ bitAnd parity-is (c .above .ensures ∙ ap (λ (t : ℕ). aboveOf t 7 sums) top-is)
+  beyond-is = ap₂ bitAnd parity-is (c .above .ensures)
 
 none-lost : (c : tie.Else1) → bitOr (lanes (c .before) even) (lanes (c .before) beyond) ≡ 0
 none-lost c = sym (ap₂ bitOr (even-is (c .before)) (beyond-is (c .before))) ∙ c .if1 .left
@@ -65,39 +57,19 @@ some-lost c e = c .if1 .taken (ap₂ bitOr (even-is (c .before)) (beyond-is (c .
 returns : tie.Need-returns
 returns c =
     let b = c .before in
-    let d = lost-decides (shape b) (sums b) (parity-lt b) (any-lt b) (block b) (some-lost c) in
-    record {
-      says = ap₂ (λ (x y : ℕ). saidOf (Lost (ones x) (ones y))) (even-is b) (beyond-is b) ∙ d .says;
-      leaves = d .leaves;
-    }
+    ap₂ (λ (x y : ℕ). saidOf (Lost (ones x) (ones y))) (even-is b) (beyond-is b)
+    ∙ lost-decides (shape b) (sums b) (parity-lt b) (any-lt b) (some-lost c)
 
 returns-2 : tie.Need-returns-2
 returns-2 c =
     let b = c .before .before in
-    clean-decides (shape b) (sums b) (parity-lt b) (any-lt b) (block b) (none-lost (c .before)) (sym (parity-is b) ∙ c .if2 .taken)
-
-add-flip-named : tie.Need-add-flip-named
-add-flip-named c = let b = c .before .before .before in omega (arith, top-is b, before-small (shape b))
-
-flip-named-requires : tie.Need-flip-named-requires
-flip-named-requires c κs =
-    let b = c .before .before .before in
-    let low = named-low (shape b) (sums b) (parity-lt b) (any-lt b) (block b) (none-lost (c .before .before)) in (
-      omega arith,
-      omega (arith, top-is b, before-lt (shape b)),
-      λ i h e. omega (arith, top-is b, low i h (sym (ap (bit i) (parity-is b)) ∙ e)),
-    )
+    clean-decides (shape b) (sums b) (parity-lt b) (any-lt b) (none-lost (c .before)) (sym (parity-is b) ∙ c .if2 .taken)
 
 returns-3 : tie.Need-returns-3
 returns-3 c =
-    let b = c .before .before .before .before in
-    let d = mended-decides (shape b) (sums b) (parity-lt b) (any-lt b) (block b) (none-lost (c .before .before .before))
-    (λ z. c .before .before .if2 .left (parity-is b ∙ z)) in
-    record {
-      says = ap (λ (w : ℕ). saidOf (Mended (ones w))) (parity-is b) ∙ d .says;
-      leaves =
-          c .flip-named .ensures ∙ ap₂ (λ (t w : ℕ). flippedIn (t + 1) (sums b) (λ i. bit i w) (block b)) (top-is b) (parity-is b) ∙ d .leaves;
-    }
+    let b = c .before .before in
+    ap (λ (w : ℕ). saidOf (Mended (ones w))) (parity-is b)
+    ∙ mended-decides (shape b) (sums b) (parity-lt b) (any-lt b) (none-lost (c .before)) (λ z. c .if2 .left (parity-is b ∙ z))
 
 pub decide-spec : {M : Type 1} → statement M
 decide-spec =
@@ -106,9 +78,6 @@ decide-spec =
     (λ c κs. search needs)
     (λ c κs. search needs)
     (λ c κs. search needs)
-    (λ c κs. search needs)
     returns
     returns-2
-    add-flip-named
-    flip-named-requires
     returns-3)

@@ -7,7 +7,8 @@ use Rattle.shape.specs.Shape.{words}
 use Rattle.layout.proofs.Sites.{Located, located, locates-is}
 use Rattle.store.proofs.Calls.{read-refused, read-lost, read-data, read-clean}
 use Rattle.store.proofs.Located.{inside, first-small, data-refused, list-refused}
-use Rattle.store.proofs.Strides.{mended-size, clean-there, sums-there, data-there, data-gathered}
+use Rattle.store.proofs.Strides.{mended-size, mended-whole, clean-there, sums-there, data-there, data-gathered}
+use Rattle.block.proofs.Told.{not-lost}
 use Rattle.store.proofs.reading.read.Statement.{statement}
 use Rattle.store.proofs.reading.read.Tie as tie
 
@@ -65,7 +66,9 @@ returns-3 c =
     read-lost _ (site (looked .before .before)) _ refl _ (decided .in-doubt .ensures .0) _ (fits looked) _ _ (c .enum-told .given .1)
 
 whole-copy : tie.Need-slice-aggregate-data-of
-whole-copy c = sym (mended-size _ _ _ _ (c .before .before .in-doubt .ensures .1))
+whole-copy c =
+    let decided = c .before .before .in-doubt .ensures in
+    sym (mended-size _ _ _ _ (mended-whole _ _ _ _ (not-lost _ _ _ (decided .0) (c .before .match2 .keys2)) (decided .1)))
 
 returns-4 : tie.Need-returns-4
 returns-4 c =
@@ -76,11 +79,12 @@ returns-4 c =
 
 returns-5 : tie.Need-returns-5
 returns-5 c =
-    let not-lost = c .before .before .before .before .before in
-    let decided = not-lost .before in
-    let mended = decided .in-doubt .ensures .1 in
+    let kept = c .before .before .before .before .before in
+    let decided = kept .before in
+    let told = decided .in-doubt .ensures in
+    let mended = mended-whole _ _ _ _ (not-lost _ _ _ (told .0) (kept .match2 .keys2)) (told .1) in
     let looked = exact (seen decided) in
-    read-data _ (site (looked .before .before)) _ refl _ (decided .in-doubt .ensures .0) _ (fits looked) (not-lost .match2 .keys2) _ _ mended
+    read-data _ (site (looked .before .before)) _ refl _ (decided .in-doubt .ensures .0) _ (fits looked) (kept .match2 .keys2) _ _ mended
     (data-gathered _ (mended-size _ _ _ _ mended) (c .before .before .data-of .ensures))
 
 pub read-spec : {M : Type 1} → statement M

@@ -1,13 +1,16 @@
 -- `store::visiting::mend` meets its contract: mended and scattered, or clean or lost and left as it is. Assumes nothing.
 use borrow.Author.Needs.{needs}
-use Rattle.store.proofs.Strides.{left}
+use Rattle.store.proofs.Strides.{left, mended-whole}
+use Rattle.block.proofs.Told.{mended-none}
 use Rattle.store.proofs.visiting.mend.Statement.{statement}
 use Rattle.store.proofs.visiting.mend.Tie as tie
 
 returns : tie.Need-returns
 returns c =
-    let decided = c .before .before .before .before .before .before .before .in-doubt .ensures in
-    rw (← decided .1) (decided .0, c .before .before .scatter .ensures)
+    let told = c .before .before .before .before .before in
+    let decided = told .before .before .in-doubt .ensures in
+    let whole = mended-whole _ _ _ _ (mended-none _ _ _ (decided .0) _ (told .enum-told .given .1)) (decided .1) in
+    rw (← whole) (decided .0, c .before .before .scatter .ensures)
 
 returns-2 : tie.Need-returns-2
 returns-2 c = let says = c .before .in-doubt .ensures .0 in (says, left _ _ _ _ _ says (c .match .keys2))
