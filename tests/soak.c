@@ -1,7 +1,8 @@
 /* A store in use, under a steady rain of flips: any lane of any block, but at least N turns between two flips of one lane of
    one block. Every read must give what was last written (zeros where nothing was); every visit must count the flips that
-   came since the last one; every ask must be served in its turn. Now and then the image goes through a file and back, and
-   the store lives on. Only the library's answers are used.
+   came since the last one; every ask must be served in its turn. Now and then the image goes through a file and back, or a
+   block is lost on purpose, lane by lane of either kind, and written again; the store lives on. Only the library's answers
+   are used.
 
    soak SEED TURNS   so many turns on each of twenty-two stores; exits 1 at the first wrong answer. */
 #include <stdio.h>
@@ -22,8 +23,8 @@ static uint32_t flipped[MOST_BLOCKS];                         /* lanes flipped s
 static uint64_t last_flip[MOST_BLOCKS][LANES];                /* the turn before which a lane was last flipped, from 1; 0 never */
 static uint32_t waiting[FOLDGREBE_PLACES], waits;             /* the asks, as their places told */
 static uint8_t file_room[FOLDGREBE_FILE_BYTES + 2 * GUARDS];
-static uint32_t kept[MOST_BLOCKS * MOST_ROWS];                /* the image while it is in a file alone */
-static uint64_t turns, next, flips, reads, writes, asks, files;
+static uint32_t kept[MOST_BLOCKS * MOST_ROWS];                /* the image while it is in a file alone, or before a visit that must not alter it */
+static uint64_t turns, next, flips, reads, writes, asks, files, losses;
 static uint64_t random_state;
 static uint64_t seed;
 
@@ -47,14 +48,16 @@ static void expect(int holds, const char *what, uint32_t block)
 
 static uint32_t ones(uint32_t x) { uint32_t c = 0; for (; x; x &= x - 1) c++; return c; }
 
+static uint32_t *word_of(uint32_t block, uint32_t row) { return image + (size_t)(block / s) * rows * s + (size_t)(row - 1) * s + block % s; }
+
 static void rain(uint32_t drops)
 {
     while (drops--) {
-        uint32_t block = below(n), lane = below(LANES), row = below(rows);
+        uint32_t block = below(n), lane = below(LANES), row = below(rows) + 1;
         uint64_t *last = &last_flip[block][lane];
         if (*last && turns + 1 - *last < n) continue;
         *last = turns + 1;
-        image[(size_t)(block / s) * rows * s + (size_t)row * s + block % s] ^= 1u << lane;
+        *word_of(block, row) ^= 1u << lane;
         flipped[block] |= 1u << lane;
         flips++;
     }
@@ -77,13 +80,47 @@ static void read_one(void)
     reads++;
 }
 
-static void write_one(void)
+static uint32_t write_one(void)
 {
     uint32_t block = below(n);
     for (uint32_t i = 0; i < data_words; i++) meant[block][i] = (uint32_t)random_number();
     expect(foldgrebe_write(image, words, shape, s, g, block, meant[block], data_words) == 0, "write refused", block);
     flipped[block] = 0;
     writes++;
+    return block;
+}
+
+/* Two flips lose a lane even; three whose sum is 72 or more, in shape 2, lose it beyond the rows. */
+static void lose_lanes(uint32_t block, uint32_t even, uint32_t beyond)
+{
+    uint32_t row = below(rows) + 1, other = row % rows + 1, high = below(7) + 65;
+    *word_of(block, row) ^= even, *word_of(block, other) ^= even;
+    if (beyond) *word_of(block, 8) ^= beyond, *word_of(block, 24) ^= beyond, *word_of(block, high) ^= beyond;
+}
+
+static void expect_lost(uint32_t block, const uint32_t verdict[FOLDGREBE_VERDICT_WORDS], uint32_t even, uint32_t beyond)
+{
+    expect(verdict[FOLDGREBE_VERDICT_NUMBER] == FOLDGREBE_LOST, "lost block not called lost", block);
+    expect(verdict[FOLDGREBE_VERDICT_COUNT] == ones(even) && verdict[FOLDGREBE_VERDICT_BEYOND] == ones(beyond), "wrong kinds of lost", block);
+}
+
+/* A block that was just written is lost in lanes of either kind, seen to be by a read and a visit that alter nothing, and written again. */
+static void lose_one(void)
+{
+    uint32_t block = write_one(), verdict[FOLDGREBE_VERDICT_WORDS], buffer[MOST_DATA], filled[MOST_DATA];
+    uint32_t even = (uint32_t)random_number(), beyond = shape == 2 ? (uint32_t)random_number() & ~even : 0;
+    if ((even | beyond) == 0) return;
+    lose_lanes(block, even, beyond);
+    memcpy(kept, image, words * sizeof *image);
+    for (uint32_t i = 0; i < data_words; i++) buffer[i] = filled[i] = (uint32_t)random_number();
+    expect(foldgrebe_read(image, words, shape, s, g, block, buffer, data_words, verdict) == 0, "read refused", block);
+    expect_lost(block, verdict, even, beyond);
+    expect(foldgrebe_visit(image, words, shape, s, g, block, verdict) == 0, "visit refused", block);
+    expect_lost(block, verdict, even, beyond);
+    expect(memcmp(buffer, filled, data_words * sizeof *buffer) == 0, "buffer of a lost read altered", block);
+    expect(memcmp(kept, image, words * sizeof *image) == 0, "lost block altered", block);
+    expect(foldgrebe_write(image, words, shape, s, g, block, meant[block], data_words) == 0, "write refused", block);
+    losses++;
 }
 
 static uint32_t place_of(uint32_t block)
@@ -193,6 +230,7 @@ static void use_store(uint64_t upto)
         default: turn_one();
         }
         if (below(32) == 0) file_one();
+        if (below(64) == 0) lose_one();
         if (turns % 512 == 0) drops = heaviness[below(4)];
     }
     for (size_t i = 0; i < GUARDS; i++) expect(room[i] == GUARD && image[words + i] == GUARD, "guard word altered", 0);
@@ -211,8 +249,8 @@ int main(int argc, char **argv)
         fresh_store();
         use_store(strtoull(argv[2], NULL, 10));
     }
-    printf("soak: seed %llu, %llu flips, %llu reads, %llu writes, %llu asks, %llu files as they should be\n", (unsigned long long)seed,
+    printf("soak: seed %llu, %llu flips, %llu reads, %llu writes, %llu asks, %llu files, %llu losses as they should be\n", (unsigned long long)seed,
            (unsigned long long)flips, (unsigned long long)reads, (unsigned long long)writes, (unsigned long long)asks,
-           (unsigned long long)files);
+           (unsigned long long)files, (unsigned long long)losses);
     return 0;
 }

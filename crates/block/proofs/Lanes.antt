@@ -65,6 +65,16 @@ module _ (i : ℕ) (digits : List ℕ) where
       ∙ compare-more (2 ^ k) (top % 2 ^ k) (low k) (bit k top) (bit i (getD digits k 0)) (mod-lt top (pow-pos k)) (number-lt k _)
       ∙ ap (λ (x : ℕ). ltb x (low k + pick (bit i (getD digits k 0)) (2 ^ k))) (sym (mod-more top k))
 
+-- above 15 are the numbers with a digit from 4 on, above 71 those from 64 on with one more from digit 3 on
+pub above-one : (digits : List ℕ) → aboveOf 15 7 digits ≡ bitOr (bitOr (getD digits 4 0) (getD digits 5 0)) (getD digits 6 0)
+unfolding aboveOf bit
+above-one digits = refl
+
+pub above-two : (digits : List ℕ)
+    → aboveOf 71 7 digits ≡ bitAnd (bitOr (bitOr (getD digits 3 0) (getD digits 4 0)) (getD digits 5 0)) (getD digits 6 0)
+unfolding aboveOf bit
+above-two digits = refl
+
 -- ---- the lanes that are lost as a kind: even with a sum, or odd with a sum above the rows before the last
 
 abbrev pub lostTest : Kind → ℕ → Bool → ℕ → Bool

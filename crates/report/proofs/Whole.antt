@@ -221,7 +221,7 @@ file-most bytes ok =
     let one = shape-one (layoutIn bytes .shape) e in
     let body = ok .body ∙ ap size one in
     (rw one (omega arith), omega arith))
-    (λ e.
+    (λ (e : layoutIn bytes .shape ≡ 2).
     let not-one : layoutIn bytes .shape ≡ 1 → ⊥ = λ q. omega (arith, e) in
     let two = shape-two (layoutIn bytes .shape) not-one in
     let body = ok .body ∙ ap size two in
