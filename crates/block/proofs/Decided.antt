@@ -1,4 +1,4 @@
--- What is decided by a block's own sums is what the definitions say of the block, and a block without a doubtful lane is clean. Assumes nothing.
+-- What is decided and mended by a block's own sums is what the definitions say, and a block without a doubtful lane is clean. Assumes nothing.
 use Prim.Native.Nat.{ℕ, zero, suc, _≤_, _<_}
 use mathlib.Core.Bool.{Bool, false, not, _||_}
 use mathlib.Core.Path.{_≡_, refl, sym, ap, ap₂, _∙_}

@@ -131,22 +131,22 @@ named-there last (suc sum) l h s = rw (eqb·suc-zero sum) (omega arith, omega ar
 
 -- ---- a turn of the loop: some odd lanes are left, and the lowest of them is flipped
 
-module _ (last : ℕ) (digits block : List ℕ) (parity : ℕ) where
+module _ (last : ℕ) (digits block : List ℕ) (lanes : ℕ) where
   abbrev pub doneBut : ℕ → List ℕ
-  doneBut left = flippedIn last digits (λ k. bit k parity && not (bit k left)) block
+  doneBut left = flippedIn last digits (λ k. bit k lanes && not (bit k left)) block
 
-  pub none-done : block ≡ doneBut parity
-  none-done = flipped-none last digits block ∙ flipped-same last digits block _ _ (λ i l. none (bit i parity))
+  pub none-done : block ≡ doneBut lanes
+  none-done = flipped-none last digits block ∙ flipped-same last digits block _ _ (λ i l. none (bit i lanes))
     where
       none : (b : Bool) → false ≡ (b && not b)
       none true = refl
       none false = refl
 
-  pub all-done : doneBut 0 ≡ flippedIn last digits (λ k. bit k parity) block
-  all-done = flipped-same last digits block _ _ (λ i l. rw (bit-zero i) (and-true (bit i parity)))
+  pub all-done : doneBut 0 ≡ flippedIn last digits (λ k. bit k lanes) block
+  all-done = flipped-same last digits block _ _ (λ i l. rw (bit-zero i) (and-true (bit i lanes)))
 
-  module _ (left i : ℕ) (hi : i < 32) (on : bit i left ≡ true) (within : (k : ℕ) → bit k left ≡ true → bit k parity ≡ true) where
-    pub next-within : (k : ℕ) → bit k (bitXor left (2 ^ i)) ≡ true → bit k parity ≡ true
+  module _ (left i : ℕ) (hi : i < 32) (on : bit i left ≡ true) (within : (k : ℕ) → bit k left ≡ true → bit k lanes ≡ true) where
+    pub next-within : (k : ℕ) → bit k (bitXor left (2 ^ i)) ≡ true → bit k lanes ≡ true
     next-within k e =
         by-cases (ℕ-discrete k i) (λ q. rw q (within i on))
         (λ ne. within k (sym (bit-cleared left i k ∙ ap (λ (b : Bool). bit k left ⊕ b) (ne-eqb k i ne) ∙ ⊕-zero (bit k left)) ∙ e))
@@ -154,10 +154,10 @@ module _ (last : ℕ) (digits block : List ℕ) (parity : ℕ) where
     pub next-done : (p : ℕ) → p ≡ rowNamed last (sumIn digits i) → 1 ≤ p
         → set (doneBut left) (p - 1) (bitXor (getD (doneBut left) (p - 1) 0) (2 ^ i)) ≡ doneBut (bitXor left (2 ^ i))
     next-done p e l =
-        flip-more last digits block (λ k. bit k parity && not (bit k left)) i hi (rw (on, within i on)) p e l
+        flip-more last digits block (λ k. bit k lanes && not (bit k left)) i hi (rw (on, within i on)) p e l
         ∙ flipped-same last digits block _ _
         (λ k r.
         rw bit-cleared
         (by-cases (ℕ-discrete k i)
         (λ q. rw q (rw (eq-eqb i i refl, on, within i on)))
-        (λ ne. rw (ne-eqb k i ne) (rw (⊕-zero (bit k left)) (⊕-zero (bit k parity && not (bit k left)))))))
+        (λ ne. rw (ne-eqb k i ne) (rw (⊕-zero (bit k left)) (⊕-zero (bit k lanes && not (bit k left)))))))

@@ -1,4 +1,4 @@
--- The data words of a block that lies in words, and what is decided by eight words. Assumes nothing.
+-- The data words of a block that lies in words, and what is decided and mended by eight words. Assumes nothing.
 use Prim.Native.Nat.{ℕ, suc, _+_, _*_, _<_}
 use mathlib.Core.Path.{_≡_}
 use mathlib.Core.List.{List}

@@ -58,12 +58,12 @@ fn row_named(sums: &[u32; SUM_WORDS], i: u32, last: usize) -> usize
     if sum == 0 { last } else { sum }
 }
 
-// Flips, in every odd lane, the row that its sum names.
-fn flip_named(block: &mut [u32; MOST_ROWS], sums: &[u32; SUM_WORDS], parity: u32, last: usize)
-    requires { ⌜ (1 ≤ last) × (last ≤ mostRows) × ((i : ℕ) → i < 32 → bit i parity ≡ true → sumIn (now sums) i < last) ⌝ }
-    ensures { λ r. ⌜ now (block .exit) ≡ flippedIn last (now (sums .entry)) (λ i. bit i parity) (now (block .entry)) ⌝ }
+// Flips, in each of these lanes, the row that its sum names.
+fn flip_named(block: &mut [u32; MOST_ROWS], sums: &[u32; SUM_WORDS], lanes: u32, last: usize)
+    requires { ⌜ (1 ≤ last) × (last ≤ mostRows) × ((i : ℕ) → i < 32 → bit i lanes ≡ true → sumIn (now sums) i < last) ⌝ }
+    ensures { λ r. ⌜ now (block .exit) ≡ flippedIn last (now (sums .entry)) (λ i. bit i lanes) (now (block .entry)) ⌝ }
 {
-    let mut left = parity;
+    let mut left = lanes;
     while left != 0 {
         let i = u32::trailing_zeros(left);
         let p = row_named(sums, i, last);

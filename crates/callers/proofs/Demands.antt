@@ -2,7 +2,7 @@
 use Prim.Native.Nat.{ℕ}
 use mathlib.Core.Path.{_≡_, refl, sym, ap, ap₂, _∙_}
 use mathlib.Core.List.{List, [], _∷_, _++_}
-use lib.ListN.{length, getD, replicate}
+use lib.ListN.{length, getD, take, drop, replicate}
 use Rattle.ground.specs.Choice.{ifZero}
 use Rattle.ground.specs.Rules.{Ruled}
 use Rattle.ground.proofs.Choices.{refused-kept}
@@ -22,7 +22,7 @@ use Rattle.patrol.specs.Turn.{turned, turnAfter, turnRefused, Turns}
 use Rattle.patrol.specs.Numbers.{Seen, unseen, seenWords, reportNumber, reportWords}
 use Rattle.patrol.specs.Reason.{askRules, turnRules}
 use Rattle.patrol.proofs.Promises.{formats, asks, turns}
-use Rattle.words.specs.Answers.{verdictWidth, reportWidth}
+use Rattle.words.specs.Answers.{verdictWidth, visitWidth, reportWidth}
 use Rattle.words.specs.Records.{recordWidth, recordOf, recordWords}
 use Rattle.words.proofs.RoundTrip.{same-words, same-record}
 use Rattle.foldgrebe.specs.Calls.{WriteCall, ReadCall, VisitCall, FormatCall, AskCall, TurnCall}
@@ -33,7 +33,7 @@ use Rattle.demands.proofs.Demand1.{demand-1}
 use Rattle.demands.proofs.Demand2.{demand-2}
 use Rattle.demands.proofs.Demand3.{demand-3}
 use Rattle.callers.specs.Handing.{Kept, RanFrom}
-use Rattle.callers.specs.Demands.{RoundTrips, CallerRefusing, CallerDemand1, CallerDemand2, CallerDemand3}
+use Rattle.callers.specs.Demands.{RoundTrips, CallerRefusing, CallerDemand1, CallerTurning, CallerDemand2, CallerDemand3}
 use Rattle.callers.specs.Demands.{CallerTurnsAccepted, CallerBlocksVisited, CallerAskServed, CallerReadsRight, CallerRuns}
 use Rattle.callers.proofs.Answers.{write-said, read-said, visit-said, ask-said, turn-said, patrol-named, ask-named}
 use Rattle.callers.proofs.Followed.{held, step-number, followed}
@@ -143,8 +143,34 @@ module _ {image : List ℕ} {layout : Layout} {block number : ℕ} where
       (visits image layout block refl refl) in
       (c .keeps, readAnswer image layout block buffer, rw (c .leaves) d, told .1)
 
+-- a block with the words of what is said of it
+seen-words : {seen : Seen} {block : ℕ} {said : Said} {verdict : List ℕ} → seen ≡ record { block = block; said = said } → verdict ≡ saidWords said
+    → seenWords seen ≡ block ∷ verdict
+seen-words {seen} {block} e w = ap seenWords e ∙ ap (λ (words : List ℕ). block ∷ words) (sym w)
+
+turn-passes : {lent image words after report : List ℕ} {number : ℕ} → TurnCall lent image number words after report → number ≡ 0
+    → {between verdict : List ℕ} {visited : ℕ} → VisitCall image (recordOf lent .layout) (recordOf lent .rota .next) visited between verdict
+    → (visited ≡ 0) × CallerTurning (recordOf lent) report after between verdict
+turn-passes {lent} {image} {words} {after} {report} c z {between} {verdict} v =
+    let r = recordOf lent in
+    let told = turn-said c in
+    let said = visit-said v in
+    let p = turns r image refl refl in
+    let d = demand-2 .turn r image _ _ p (sym (told .0) ∙ z) _ _ (visits image (r .layout) (r .rota .next) refl (v .leaves)) in
+    let left = c .leaves ∙ sym (p .leaves) in (
+      said .0 ∙ d .accepted,
+      record {
+        first = ap (take visitWidth) (told .1) ∙ seen-words (d .first) (said .1);
+        alone = λ e. let a = d .alone e in (ap (drop visitWidth) (told .1) ∙ ap seenWords (a .0), left ∙ a .1);
+        asked = λ block rest e {number} {last} {other} w.
+            let tells = visit-said w in
+            let a = d .asked block rest e _ _ (visits between (r .layout) block refl (w .leaves)) in
+            (tells .0 ∙ a .0, ap (drop visitWidth) (told .1) ∙ seen-words (a .1) (tells .1), left ∙ a .2);
+      },
+    )
+
 pub caller-demand-2 : CallerDemand2
-caller-demand-2 = record { visit = visit-mends; write = write-stores; read = read-mends }
+caller-demand-2 = record { visit = visit-mends; write = write-stores; read = read-mends; turn = turn-passes }
 
 -- ---- demand 3
 

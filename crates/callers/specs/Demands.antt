@@ -2,13 +2,13 @@
 use Prim.Native.Nat.{ℕ, suc, _+_, _≤_, _<_}
 use mathlib.Core.Path.{_≡_}
 use mathlib.Core.List.{List, [], _∷_, _++_}
-use lib.ListN.{length, getD, replicate}
+use lib.ListN.{length, getD, take, drop, replicate}
 use Rattle.ground.specs.Rules.{Ruled}
 use Rattle.block.specs.Block.{Fitting}
 use Rattle.layout.specs.declared.Layout.{Layout}
 use Rattle.layout.specs.Layout.{wordsOf, blocks}
 use Rattle.layout.specs.Reason.{imageRules, blockRules}
-use Rattle.rota.specs.Line.{places}
+use Rattle.rota.specs.Line.{places, asksOf}
 use Rattle.store.specs.declared.Answer.{Answer}
 use Rattle.store.specs.Answer.{answerWords}
 use Rattle.store.specs.Reason.{dataRules}
@@ -53,6 +53,14 @@ pub record CallerDemand1 : Type 1 where
 
 -- ---- demand 2: where the call is accepted, its words are those of an answer of which the demand holds
 
+-- a turn's words are its blocks, each with the words that a visit of it gives: the block that is next, and then the ask at place 1
+pub record CallerTurning (r : Record) (report after between verdict : List ℕ) : Type 0 where
+  pub first : take visitWidth report ≡ r .rota .next ∷ verdict
+  pub alone : asksOf (r .rota .line) ≡ [] → (drop visitWidth report ≡ replicate visitWidth 0) × (after ≡ between)
+  pub asked : (block : ℕ) (rest : List ℕ) → asksOf (r .rota .line) ≡ block ∷ rest
+      → {number : ℕ} {last other : List ℕ} → VisitCall between (r .layout) block number last other
+      → (number ≡ 0) × (drop visitWidth report ≡ block ∷ other) × (after ≡ last)
+
 pub record CallerDemand2 : Type 0 where
   pub visit : {image after verdict : List ℕ} {layout : Layout} {block number : ℕ} → Fitting image → VisitCall image layout block number after verdict
       → number ≡ 0
@@ -66,6 +74,9 @@ pub record CallerDemand2 : Type 0 where
       → (kept ≡ image)
       × (answer : Answer) × Reading layout block buffer answer after (visitAnswer image layout block) (visitAfter image layout block)
       × (verdict ≡ answerWords answer)
+  pub turn : {lent image words after report : List ℕ} {number : ℕ} → TurnCall lent image number words after report → number ≡ 0
+      → {between verdict : List ℕ} {visited : ℕ} → VisitCall image (recordOf lent .layout) (recordOf lent .rota .next) visited between verdict
+      → (visited ≡ 0) × CallerTurning (recordOf lent) report after between verdict
 
 -- ---- demand 3: of whatever the caller keeps after a format and a list of steps
 

@@ -27,6 +27,7 @@ use Rattle.store.proofs.Image.{length-gathered, gathered-words, placed-gathered
 use Rattle.store.proofs.Ladder.{data-accepted}
 use Rattle.demands.specs.Demand2.{Visiting, Writing, Reading, Demand2}
 use Rattle.demands.proofs.Numbers.{write-number, read-number, visit-number}
+use Rattle.demands.proofs.Turning.{passes-on}
 use Rattle.demands.proofs.OneBlock.{mends, clean-same, lost-same, clean-numbers, kept-numbers}
 
 module _ (image : List ℕ) (layout : Layout) (block : ℕ) where
@@ -118,5 +119,6 @@ demand-2 =
       visit = visit-allowed;
       write = λ image layout block list answer after. write-allowed image layout block answer list after;
       read = λ image layout block buffer answer kept filled. read-allowed image layout block answer buffer kept filled;
+      turn = passes-on;
       read-leaves = λ image layout block buffer answer kept filled p. p .keeps;
     }

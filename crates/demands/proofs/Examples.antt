@@ -24,6 +24,8 @@ use Rattle.block.specs.Inner.{aboveOf, lostLanes, namingLanes, flippedIn, xorAl
 use Rattle.block.proofs.Verdicts.{verdict-says}
 use Rattle.block.proofs.ByWords.{fit?, bits, rowSums, written, lost-by-words, mended-by-words}
 use Rattle.layout.specs.Layout.{shapeNumbered}
+use Rattle.text.specs.Text.{decimal, spelled}
+use Rattle.report.specs.Lines.{blockLine}
 use Rattle.demands.specs.Examples.{Example, examples, upTo}
 
 module _ (shape : Shape) where
@@ -53,7 +55,14 @@ module _ (shape : Shape) where
         said found found _ (lost-by-words shape found fit long (λ z. omega (arith, some)))
         ∙ ap₂ (λ (k l : ℕ). verdictWords (Lost k l) ++ found) c d
 
-    -- a mended block, by the word of its odd lanes
+    -- and what is printed of it
+    was-printed : (w e b : ℕ) (line : List ℕ) → bitOr (lostWord even) (lostWord beyond) ≡ suc w → bits (lostWord even) ≡ e → bits (lostWord beyond) ≡ b
+        → blockLine 0 (Lost e b) ≡ line
+        → blockLine 0 (verdictOf shape found) ≡ line
+    was-printed w e b line some c d same =
+        ap (blockLine 0) (lost-by-words shape found fit long (λ z. omega (arith, some)) .0 ∙ ap₂ Lost c d) ∙ same
+
+    -- a mended block, by the words of its odd lanes and of those that name a row
     was-mended : (n w : ℕ) (after : List ℕ) → bitOr (lostWord even) (lostWord beyond) ≡ 0 → getD (rowSums shape found) 7 0 ≡ suc w
         → bits (getD (rowSums shape found) 7 0) ≡ n
         → flippedIn (rows shape) (rowSums shape found)
@@ -66,6 +75,7 @@ module _ (shape : Shape) where
 
 pub all-hold : map (λ (e : Example). e .gives) examples ≡ map (λ (e : Example). e .must) examples
 unfolding examples upTo dataBlock stores listOf number total xorRows anyOf aboveOf flippedIn xorAll withChecks power? rowsWhere bit fit? shapeNumbered
+    blockLine decimal spelled
 all-hold =
     ap₂ _∷_ (wrote _ _ _ refl refl)
     (ap₂ _∷_ (wrote _ _ _ refl refl)
@@ -75,8 +85,10 @@ all-hold =
     (ap₂ _∷_ (was-mended _ _ refl refl 1 _ _ refl refl refl refl)
     (ap₂ _∷_ (was-mended _ _ refl refl 32 _ _ refl refl refl refl)
     (ap₂ _∷_ (was-lost _ _ refl refl _ 1 0 refl refl refl)
+    (ap₂ _∷_ (was-printed _ _ refl refl _ 1 0 _ refl refl refl refl)
     (ap₂ _∷_ (was-mended _ _ refl refl 2 _ _ refl refl refl refl)
     (ap₂ _∷_ (was-lost _ _ refl refl _ 1 0 refl refl refl)
     (ap₂ _∷_ (was-mended _ _ refl refl 1 _ _ refl refl refl refl)
     (ap₂ _∷_ (was-lost _ _ refl refl _ 0 1 refl refl refl)
-    (ap₂ _∷_ refl refl))))))))))))
+    (ap₂ _∷_ (was-printed _ _ refl refl _ 0 1 _ refl refl refl refl)
+    (ap₂ _∷_ refl refl))))))))))))))

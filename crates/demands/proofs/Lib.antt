@@ -2,6 +2,7 @@ pub mod Demand1
 pub mod SameBlocks
 pub mod OneBlock
 pub mod Numbers
+pub mod Turning
 pub mod Demand2
 pub mod OneResult
 pub mod Examples

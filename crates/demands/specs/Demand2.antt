@@ -1,16 +1,15 @@
 -- Demand 2: a visit leaves the one valid block that differs in at most one bit a lane, and says lost exactly if there is none, with the
 -- lanes lost with even parity and those lost with an odd sum beyond the rows;
--- a write stores the one valid block for its data; a read answers as a visit would, gives the mended data and leaves the image.
--- Assumes nothing.
+-- a write stores the one valid block for its data; a read answers as a visit would, gives the mended data and leaves the image;
+-- a turn passes on what its visits answer. Assumes nothing.
 use Prim.Native.Nat.{ℕ, _+_, _≤_, _<_}
 use mathlib.Core.Bool.{Bool, true}
 use mathlib.Core.Path.{_≡_}
-use mathlib.Core.List.{List}
+use mathlib.Core.List.{List, [], _∷_}
 use mathlib.Core.Logic.{_⊎_, _↔_}
 use Rattle.ground.specs.Totals.{total}
 use Rattle.lane.specs.Bit.{pick}
-use Rattle.lane.specs.Lane.{Lane, Valid, apart}
-use Rattle.lane.specs.Decision.{Kind, even, beyond, LostAs}
+use Rattle.lane.specs.Decision.{Kind, even, beyond, LostAs, NoneNear}
 use Rattle.shape.specs.declared.Shape.{Shape}
 use Rattle.shape.specs.declared.Shape.the-variants.{One}
 use Rattle.shape.specs.Shape.{before}
@@ -24,6 +23,11 @@ use Rattle.store.specs.Image.{gathered, Untouched}
 use Rattle.store.specs.Write.{Writes}
 use Rattle.store.specs.Read.{Reads}
 use Rattle.store.specs.Visit.{Visits}
+use Rattle.rota.specs.Line.{asksOf}
+use Rattle.patrol.specs.declared.Record.{Record}
+use Rattle.patrol.specs.declared.Turned.{Turned}
+use Rattle.patrol.specs.Numbers.{unseen, reportNumber, reportFirst, reportSecond}
+use Rattle.patrol.specs.Turn.{Turns}
 
 -- what a found block may have been meant to be: a valid block that differs from it in at most one bit a lane
 pub record Meant (shape : Shape) (found meant : List ℕ) : Type 0 where
@@ -43,7 +47,7 @@ SaysLost answer = answerSaid answer .verdict ≡ 3
 
 -- a lane of a block is lost: no valid lane is within one row of it
 abbrev pub LaneLost : Shape → List ℕ → ℕ → Type 0
-LaneLost shape found i = (meant : Lane) → Valid (before shape) meant → apart (before shape) (lane i found) meant ≤ 1 → ⊥
+LaneLost shape found i = NoneNear (before shape) (lane i found)
 
 -- it is of a kind: even with a sum that is not 0, or odd with a sum of rows or more
 abbrev pub LaneLostAs : Kind → Shape → List ℕ → ℕ → Type 0
@@ -72,7 +76,7 @@ pub record Mends (shape : Shape) (found left : List ℕ) (answer : Answer) : Typ
   pub kinds : (i : ℕ) → LaneLost shape found i ↔ (LaneLostAs even shape found i ⊎ LaneLostAs beyond shape found i)
   pub lanes : SaysLost answer → CountsLanes (answerSaid answer .count + answerSaid answer .beyond) (LaneLost shape found)
   pub within-one : shape ≡ One → answerSaid answer .beyond ≡ 0
-  -- either count, of lost the two together, is from 1 to 32
+  -- not clean: the two counts together, of which a mend has one, are from 1 to 32
   pub range : (SaysClean answer → ⊥) → (1 ≤ answerSaid answer .count + answerSaid answer .beyond)
       × (answerSaid answer .count + answerSaid answer .beyond ≤ 32)
   -- clean exactly if the block was valid, and the count is then 0
@@ -103,6 +107,16 @@ pub record Reading (layout : Layout) (block : ℕ) (buffer : List ℕ) (answer :
   pub mended : (SaysLost answer → ⊥) → filled ≡ dataOf (shapeOf layout) (gathered layout block after)
   pub stays : SaysLost answer → filled ≡ buffer
 
+-- a turn, with what a visit of the block that is next would answer and leave
+pub record Turning (r : Record) (answer : Turned) (after : List ℕ) (visited : Answer) (between : List ℕ) : Type 0 where
+  pub accepted : answerNumber visited ≡ 0
+  pub first : reportFirst (answer .report) ≡ record { block = r .rota .next; said = answerSaid visited }
+  pub alone : asksOf (r .rota .line) ≡ [] → (reportSecond (answer .report) ≡ unseen) × (after ≡ between)
+  -- and then one of the ask at place 1
+  pub asked : (block : ℕ) (rest : List ℕ) → asksOf (r .rota .line) ≡ block ∷ rest
+      → (other : Answer) (last : List ℕ) → Visits between (r .layout) block other last
+      → (answerNumber other ≡ 0) × (reportSecond (answer .report) ≡ record { block = block; said = answerSaid other }) × (after ≡ last)
+
 -- the demand: of every image of 32-bit words and every block, where the call is accepted, and of all that its promise allows
 pub record Demand2 : Type 0 where
   pub visit : (image : List ℕ) (layout : Layout) (block : ℕ) (answer : Answer) (after : List ℕ) → Fitting image
@@ -118,7 +132,11 @@ pub record Demand2 : Type 0 where
       → answerNumber answer ≡ 0
       → (visited : Answer) (after : List ℕ) → Visits image layout block visited after
       → Reading layout block buffer answer filled visited after
-  -- accepted or refused, it leaves the image
+  pub turn : (r : Record) (image : List ℕ) (answer : Turned) (after : List ℕ) → Turns r image answer after
+      → reportNumber (answer .report) ≡ 0
+      → (visited : Answer) (between : List ℕ) → Visits image (r .layout) (r .rota .next) visited between
+      → Turning r answer after visited between
+  -- accepted or refused, a read leaves the image
   pub read-leaves : (image : List ℕ) (layout : Layout) (block : ℕ) (buffer : List ℕ) (answer : Answer) (kept filled : List ℕ)
       → Reads image layout block buffer answer kept filled
       → kept ≡ image

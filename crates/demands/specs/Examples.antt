@@ -1,13 +1,16 @@
 -- The worked examples 1 to 12, as one list: what the definitions give, and what they must give.
 -- Shape 1 unless said; rows not named are zero. Verdict 2 is mended, 3 lost. Assumes nothing.
 use Prim.Native.Nat.{ℕ, zero, suc, _-_}
+use Prim.Native.String.{String}
 use mathlib.Core.List.{List, [], _∷_, _++_}
 use lib.ListN.{set, replicate}
 use Rattle.shape.specs.declared.Shape.{Shape}
 use Rattle.shape.specs.declared.Shape.the-variants.{One, Two}
 use Rattle.block.specs.Block.{blank, validBlock, mendedBlock}
-use Rattle.block.specs.Verdict.{toSay, saidWords}
+use Rattle.block.specs.Verdict.{toSay, saidWords, verdictOf}
 use Rattle.layout.specs.Layout.{layoutOf, index}
+use Rattle.text.specs.Text.{ascii}
+use Rattle.report.specs.Lines.{blockLine}
 
 pub record Example : Type 0 where
   pub gives : List ℕ
@@ -39,6 +42,10 @@ mends shape found bits after = visits shape found 2 bits 0 after
 abbrev pub loses : Shape → List ℕ → ℕ → ℕ → Example
 loses shape found even beyond = visits shape found 3 even beyond found
 
+-- what the inspecting program prints of such a block, were it block 0
+abbrev pub prints : Shape → List ℕ → String → Example
+prints shape found text = record { gives = blockLine 0 (verdictOf shape found); must = ascii text }
+
 abbrev pub ones : ℕ
 ones = 0xFFFFFFFF
 
@@ -64,6 +71,7 @@ examples =
     ∷ mends One (blank with ones in-rows (16 ∷ [])) 32 blank
     -- 7: rows 3 and 5 = 1: lost 1 0, unchanged
     ∷ loses One (blank with 1 in-rows (3 ∷ 5 ∷ [])) 1 0
+    ∷ prints One (blank with 1 in-rows (3 ∷ 5 ∷ [])) "block 0 lost 1 0\n"
     -- 8: row 3 = 1, row 5 = 2: mended 2
     ∷ mends One (blank with 1 in-rows (3 ∷ []) with 2 in-rows (5 ∷ [])) 2 blank
     -- 9: rows 3 and 5 = 1, row 9 = 2: lost 1 0; row 9 stays 2
@@ -72,6 +80,7 @@ examples =
     ∷ mends One (blank with 1 in-rows (1 ∷ 2 ∷ 4 ∷ [])) 1 (blank with 1 in-rows (1 ∷ 2 ∷ 4 ∷ 7 ∷ []))
     -- 11: shape 2, rows 1, 9 and 64 = 1: sum 72, odd: lost 0 1
     ∷ loses Two (blank with 1 in-rows (1 ∷ 9 ∷ 64 ∷ [])) 0 1
+    ∷ prints Two (blank with 1 in-rows (1 ∷ 9 ∷ 64 ∷ [])) "block 0 lost 0 1\n"
     -- 12: shape 2, s = 6, block 7: row 1 at index 433, row 72 at 859
     ∷ record { gives = index (layoutOf 2 6 2) 7 1 ∷ index (layoutOf 2 6 2) 7 72 ∷ []; must = 433 ∷ 859 ∷ [] }
     ∷ []

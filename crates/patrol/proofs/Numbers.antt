@@ -52,7 +52,7 @@ reports-told (Two a v b u) (Two h x k y) p q e f g =
     let other = t .1 in
     λ i. Two (first i) (verdict i) (second i) (other i)
 
--- a refusal has block, verdict, count and place 0
+-- a refusal has block, verdict, counts and place 0
 pub report-bare : (a : Report) → (reportNumber a ≡ 0 → ⊥) → (reportFirst a ≡ unseen) × (reportSecond a ≡ unseen)
 report-bare (Refused m) ne = (refl, refl)
 report-bare (One f v) ne = absurd (ne refl)

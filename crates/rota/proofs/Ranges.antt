@@ -45,6 +45,15 @@ module _ (n : ℕ) (r : Rota) where
       go true ok (suc v) z e = let w : _≡_ {A = ℕ} 0 1 = cc in absurd (omega arith)
       go false ok v z e = let w : _≡_ {A = ℕ} 0 1 = cc in absurd (omega arith)
 
+  -- where a turn is accepted, the block that is next and those that wait are below n
+  pub turn-inside : turnNumber n r ≡ 0 → (r .next < n) × (below n (asksOf (r .line)) ≡ true)
+  unfolding turnNumber
+  turn-inside e = go (unbroken n r) refl e
+    where
+      go : (t : Bool) → unbroken n r ≡ t → 5 when not t else 0 ≡ 0 → (r .next < n) × (below n (asksOf (r .line)) ≡ true)
+      go true ok e = let s = plan-fit n r ok in (s .inside, s .low)
+      go false ok e = absurd (omega arith)
+
   pub due-inside : dueNumber (rotaTurned n r .due) ≡ 0 → (firstBlock (rotaTurned n r .due) < n) × (secondBlock (rotaTurned n r .due) < n)
   unfolding rotaTurned turnNumber
   due-inside e = go (unbroken n r) refl e

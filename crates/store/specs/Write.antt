@@ -21,7 +21,7 @@ writeAfter image layout block list =
     (placed layout block (validBlock (shapeOf layout) list) image)
     image
 
--- the promise of write: what it answers, which is no verdict and no count, and the image that it leaves
+-- the promise of write: what it answers, which is no verdict and no counts, and the image that it leaves
 pub record Writes (image : List ℕ) (layout : Layout) (block : ℕ) (list : List ℕ) (answer : Answer) (after : List ℕ) : Type 0 where
   pub answers : Answers (dataRefusal (length image) layout block (length list)) unsaid answer
   pub leaves : after ≡ writeAfter image layout block list

@@ -18,7 +18,13 @@ use shape::Shape;
 use sums::SUM_WORDS;
 
 // A block in doubt, with its sums: decided whole, and stored only where it was mended.
-fn mend(image: &mut [u32], shape: Shape, at: usize, s: u32, sums: &[u32; SUM_WORDS]) -> Verdict
+fn mend_in_place(
+    image: &mut [u32],
+    shape: Shape,
+    at: usize,
+    s: u32,
+    sums: &[u32; SUM_WORDS],
+) -> Verdict
     requires { ⌜ Inside (length (now image)) (rows shape) at s × (now sums ≡ sumsOf shape (strideRead (now image) at s blank (rows shape))) ⌝ }
     ensures verdict { λ r. ⌜ r ≡ verdictOf shape (strideRead (now (image .entry)) at s blank (rows shape)) ⌝ }
     ensures after { λ r. ⌜ now (image .exit) ≡
@@ -45,7 +51,7 @@ pub fn visit(image: &mut [u32], layout: Layout, block: u32) -> Answer
             if sums::look(shape, image, at as u32, s, &mut sums) == 0 {
                 return Answer::Found(Verdict::Clean);
             }
-            Answer::Found(mend(image, shape, at, s, &sums))
+            Answer::Found(mend_in_place(image, shape, at, s, &sums))
         }
     }
 }
@@ -62,7 +68,7 @@ pub fn visit_accepted(image: &mut [u32], layout: Layout, block: u32) -> Verdict
             if sums::look(shape, image, at as u32, s, &mut sums) == 0 {
                 return Verdict::Clean;
             }
-            mend(image, shape, at, s, &sums)
+            mend_in_place(image, shape, at, s, &sums)
         }
     }
 }

@@ -1,4 +1,4 @@
--- `block::mending::flip_named` meets its contract. The loop's invariant: the odd lanes that are not left are flipped. Assumes nothing.
+-- `block::mending::flip_named` meets its contract. The loop's invariant: the lanes that are not left are flipped. Assumes nothing.
 use Prim.Native.Nat.{ℕ, _≤_, _<_}
 use mathlib.Core.Bool.{true}
 use mathlib.Core.Path.{_≡_, ap, _∙_}
@@ -12,11 +12,11 @@ use Rattle.block.proofs.mending.flip_named.Statement.{statement}
 use Rattle.block.proofs.mending.flip_named.Tie as tie
 
 abbrev Inv-loop : tie.InvT-loop
-Inv-loop block₀ digits parity last left₀ block left =
-    (block ≡ doneBut last digits block₀ parity left) × ((i : ℕ) → bit i left ≡ true → bit i parity ≡ true) × (left ≤ parity)
+Inv-loop block₀ digits lanes last left₀ block left =
+    (block ≡ doneBut last digits block₀ lanes left) × ((i : ℕ) → bit i left ≡ true → bit i lanes ≡ true) × (left ≤ lanes)
 
 abbrev μ-loop : tie.MeasureT-loop
-μ-loop block₀ digits parity last left₀ block left = left
+μ-loop block₀ digits lanes last left₀ block left = left
 
 -- the start
 abbrev start : tie.In-loop Inv-loop μ-loop → tie.Start Inv-loop μ-loop
@@ -39,7 +39,7 @@ there c =
     rw (c .row-named .ensures) (named-there (s .args .last) (sumIn (s .args .sums .now) i) (s .pre .0) (s .pre .1) h)
 
 loop-holds : tie.Need-loop-holds Inv-loop μ-loop
-loop-holds c = (none-done (c .args .last) (c .args .sums .now) (c .args .block .now) (c .args .parity), λ i e. e, le-refl _)
+loop-holds c = (none-done (c .args .last) (c .args .sums .now) (c .args .block .now) (c .args .lanes), λ i e. e, le-refl _)
 
 row-named-requires : tie.Need-row-named-requires Inv-loop μ-loop
 row-named-requires c κs = low c .0
@@ -75,17 +75,17 @@ loop-again c =
     let l = low (c .before .before) in
     let t = there (c .before) in
     rw (one-lane i (l .0), inv .0) (
-      next-done (args .last) (args .sums .now) (args .block .now) (args .parity) left i (l .0) (l .1) (inv .1) (c .before .row-named .result)
+      next-done (args .last) (args .sums .now) (args .block .now) (args .lanes) left i (l .0) (l .1) (inv .1) (c .before .row-named .result)
           (c .before .row-named .ensures) (t .0),
-      next-within (args .last) (args .sums .now) (args .block .now) (args .parity) left i (l .0) (l .1) (inv .1),
+      next-within (args .last) (args .sums .now) (args .block .now) (args .lanes) left i (l .0) (l .1) (inv .1),
       omega (arith, inv .2, clear-less left i (omega arith) (l .0) (l .1)),
     )
 
 returns : tie.Need-returns Inv-loop μ-loop
 returns c =
     let args = c .before .before .args in
-    c .before .loop .inv .0 ∙ ap (doneBut (args .last) (args .sums .now) (args .block .now) (args .parity)) (c .loop-test .left)
-    ∙ all-done (args .last) (args .sums .now) (args .block .now) (args .parity)
+    c .before .loop .inv .0 ∙ ap (doneBut (args .last) (args .sums .now) (args .block .now) (args .lanes)) (c .loop-test .left)
+    ∙ all-done (args .last) (args .sums .now) (args .block .now) (args .lanes)
 
 pub flip-named-spec : {M : Type 1} → statement M
 flip-named-spec =

@@ -28,7 +28,8 @@ module _ (c : tie.After-rows) where
   above-small : aboveOf (before shape) 7 sums < 2 ^ 32
   above-small = let h : c .before .before .above .result < 2 ^ 32 = omega arith in omega (arith, c .before .before .above .ensures)
 
-  lanes-are : bitAnd (c .before .before .before .odd .result) ((2 ^ 32 - 1) - c .before .before .above .result) ≡ namingLanes (before shape) (getD sums 7 0) sums
+  lanes-are : bitAnd (c .before .before .before .odd .result) ((2 ^ 32 - 1) - c .before .before .above .result)
+      ≡ namingLanes (before shape) (getD sums 7 0) sums
   lanes-are = ap₂ (λ (x y : ℕ). bitAnd x ((2 ^ 32 - 1) - y)) (c .before .before .before .odd .ensures) (c .before .before .above .ensures)
 
 flip-named-requires : tie.Need-flip-named-requires

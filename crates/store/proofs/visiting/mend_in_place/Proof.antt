@@ -1,9 +1,9 @@
--- `store::visiting::mend` meets its contract: mended and scattered, or clean or lost and left as it is. Assumes nothing.
+-- `store::visiting::mend_in_place` meets its contract: mended and scattered, or clean or lost and left as it is. Assumes nothing.
 use borrow.Author.Needs.{needs}
 use Rattle.store.proofs.Strides.{left, mended-whole}
 use Rattle.block.proofs.Told.{mended-none}
-use Rattle.store.proofs.visiting.mend.Statement.{statement}
-use Rattle.store.proofs.visiting.mend.Tie as tie
+use Rattle.store.proofs.visiting.mend_in_place.Statement.{statement}
+use Rattle.store.proofs.visiting.mend_in_place.Tie as tie
 
 returns : tie.Need-returns
 returns c =
@@ -15,8 +15,8 @@ returns c =
 returns-2 : tie.Need-returns-2
 returns-2 c = let says = c .before .in-doubt .ensures .0 in (says, left _ _ _ _ _ says (c .match .keys2))
 
-pub mend-spec : {M : Type 1} → statement M
-mend-spec =
+pub mend-in-place-spec : {M : Type 1} → statement M
+mend-in-place-spec =
     tie.close
     (tie.spec
     (λ c κs. search needs)
