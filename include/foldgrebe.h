@@ -50,7 +50,8 @@
 extern "C" {
 #endif
 
-/* A verdict's words, which a visit and a read give: what was found, and how many bits or lanes of the first kind, and of the second. */
+/* A verdict's words, which a visit and a read give: the verdict; bits changed, or lanes lost with even parity; 0, or lanes
+   lost with an odd sum beyond the rows. */
 #define FOLDGREBE_VERDICT_NUMBER 0
 #define FOLDGREBE_VERDICT_COUNT  1
 #define FOLDGREBE_VERDICT_BEYOND 2
@@ -60,7 +61,7 @@ extern "C" {
 #define FOLDGREBE_CLEAN  1   /* count and beyond 0 */
 #define FOLDGREBE_MENDED 2   /* count: the bits changed, from 1 to 32; beyond 0 */
 #define FOLDGREBE_LOST   3   /* count: the lanes lost with even parity; beyond: those with an odd sum beyond the rows, 0 in shape 1; together 1 to 32 */
-/* To a workshop: even lanes are a reboot, the memory may stay; lanes beyond are odd damage, three flips or more in a lane, and the memory is swapped. */
+/* To a workshop: lanes lost with even parity are even damage, so reboot; lanes lost beyond the rows are odd damage, so swap the memory. */
 
 /* A turn's report: the patrol's block and its verdict's words, then the block asked for and its verdict's words. */
 #define FOLDGREBE_REPORT_BLOCK       0

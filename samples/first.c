@@ -34,14 +34,22 @@ static void flip_a_bit(void)
     printf("flipped: row 5, lane 7 of block %u\n", BLOCK);
 }
 
+/* The verdict and its count; of lost both: lanes lost with even parity, lanes lost with an odd sum beyond the rows. */
+static void print_verdict(const uint32_t verdict[FOLDGREBE_VERDICT_WORDS])
+{
+    printf("%s %u", said[verdict[FOLDGREBE_VERDICT_NUMBER]], verdict[FOLDGREBE_VERDICT_COUNT]);
+    if (verdict[FOLDGREBE_VERDICT_NUMBER] == FOLDGREBE_LOST) printf(" %u", verdict[FOLDGREBE_VERDICT_BEYOND]);
+}
+
 /* One turn visits one block, so as many turns as there are blocks visit all. A real program turns at each tick of a clock. */
 static void turn_while_clean(void)
 {
     uint32_t report[FOLDGREBE_REPORT_WORDS];
     for (int turns = 0; turns < INTERLEAVE * GROUPS; turns++) {
         expect_accepted("turn", foldgrebe_turn(record, image, WORDS, report));
-        printf("turn: block %u %s %u\n", report[FOLDGREBE_REPORT_BLOCK], said[report[FOLDGREBE_REPORT_VERDICT]],
-               report[FOLDGREBE_REPORT_COUNT]);
+        printf("turn: block %u ", report[FOLDGREBE_REPORT_BLOCK]);
+        print_verdict(report + FOLDGREBE_REPORT_VERDICT);
+        printf("\n");
         if (report[FOLDGREBE_REPORT_VERDICT] != FOLDGREBE_CLEAN) return;
     }
 }
@@ -51,7 +59,9 @@ static void read_block(void)
 {
     uint32_t buffer[DATA_WORDS], verdict[FOLDGREBE_VERDICT_WORDS];
     expect_accepted("read", foldgrebe_read(image, WORDS, SHAPE, INTERLEAVE, GROUPS, BLOCK, buffer, DATA_WORDS, verdict));
-    printf("read: block %u %s %u:", BLOCK, said[verdict[FOLDGREBE_VERDICT_NUMBER]], verdict[FOLDGREBE_VERDICT_COUNT]);
+    printf("read: block %u ", BLOCK);
+    print_verdict(verdict);
+    printf(":");
     if (verdict[FOLDGREBE_VERDICT_NUMBER] != FOLDGREBE_LOST)
         for (uint32_t i = 0; i < DATA_WORDS; i++) printf(" %u", buffer[i]);
     printf("\n");

@@ -12,6 +12,13 @@ static const uint32_t STALE = 0xdeadbeef;   /* what outputs hold before a call *
 /* Words that are lent, with guard words before and behind. */
 typedef struct { uint32_t *room, *words; size_t length; const char *name; } lent;
 
+/* The places that the header names are those of the specification. */
+_Static_assert(FOLDGREBE_VERDICT_NUMBER == 0 && FOLDGREBE_VERDICT_COUNT == 1 && FOLDGREBE_VERDICT_BEYOND == 2 && FOLDGREBE_VERDICT_WORDS == 3, "verdict");
+_Static_assert(FOLDGREBE_REPORT_BLOCK == 0 && FOLDGREBE_REPORT_VERDICT == 1 && FOLDGREBE_REPORT_COUNT == 2 && FOLDGREBE_REPORT_BEYOND == 3, "report");
+_Static_assert(FOLDGREBE_REPORT_ASK_BLOCK == 4 && FOLDGREBE_REPORT_ASK_VERDICT == 5 && FOLDGREBE_REPORT_ASK_COUNT == 6, "report of the ask");
+_Static_assert(FOLDGREBE_REPORT_ASK_BEYOND == 7 && FOLDGREBE_REPORT_WORDS == 8, "report of the ask");
+_Static_assert(FOLDGREBE_CLEAN == 1 && FOLDGREBE_MENDED == 2 && FOLDGREBE_LOST == 3, "verdicts");
+
 static lent image, record, list, verdict, place, report, written, told;
 static uint32_t *shadow;                     /* the image as it was before the call */
 static uint8_t *file_room, *file;            /* the room for a file, with guard bytes before and behind */
