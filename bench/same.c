@@ -138,7 +138,7 @@ INLINE uint32_t any_digit(const findings *f, uint32_t shape)
 /* Even with a sum. */
 INLINE uint32_t lost_even(const findings *f, uint32_t shape) { return any_digit(f, shape) & ~f->odd; }
 
-/* In shape 2 also odd with a sum of 72 or more: 64 and at least one of 8, 16, 32. */
+/* Odd with a sum of 72 or more, in shape 2 alone: 64 and at least one of 8, 16, 32. */
 INLINE uint32_t lost_beyond(const findings *f, uint32_t shape)
 {
     return shape == 1 ? 0 : f->odd & f->digit[6] & (f->digit[5] | f->digit[4] | f->digit[3]);

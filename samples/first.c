@@ -1,5 +1,5 @@
 /* A first program: it writes a block, flips a bit of it as heat would, has the patrol walk until the bit is mended, and
-   reads the block back. docs/C.md has the two commands that build and run it; first.out is what it prints. */
+   reads the block back; then two bits of a lane, which lose it. docs/C.md has the two commands that build and run it; first.out is what it prints. */
 #include <stdio.h>
 #include <stdlib.h>
 #include "foldgrebe.h"
@@ -27,10 +27,14 @@ static void write_block(void)
 }
 
 /* Row p of block b lies at index b / s * ROWS * s + (p - 1) * s + b % s. */
+static void flip(size_t row)
+{
+    image[BLOCK / INTERLEAVE * ROWS * INTERLEAVE + (row - 1) * INTERLEAVE + BLOCK % INTERLEAVE] ^= 1u << 7;
+}
+
 static void flip_a_bit(void)
 {
-    size_t index = BLOCK / INTERLEAVE * ROWS * INTERLEAVE + (5 - 1) * INTERLEAVE + BLOCK % INTERLEAVE;
-    image[index] ^= 1u << 7;
+    flip(5);
     printf("flipped: row 5, lane 7 of block %u\n", BLOCK);
 }
 
@@ -67,12 +71,21 @@ static void read_block(void)
     printf("\n");
 }
 
+/* Two flips in one lane are one too many: the block is lost, and the read copies nothing. */
+static void lose_block(void)
+{
+    flip(5), flip(6);
+    printf("flipped: rows 5 and 6, lane 7 of block %u\n", BLOCK);
+}
+
 int main(void)
 {
     expect_accepted("format", foldgrebe_format(image, WORDS, SHAPE, INTERLEAVE, GROUPS, record));
     write_block();
     flip_a_bit();
     turn_while_clean();
+    read_block();
+    lose_block();
     read_block();
     return 0;
 }

@@ -129,7 +129,7 @@ pub named-there : (last sum : ℕ) → 1 ≤ last → last ≤ 72 → sum < last
 named-there last zero l h s = (l, h)
 named-there last (suc sum) l h s = rw (eqb·suc-zero sum) (omega arith, omega arith)
 
--- ---- a turn of the loop: some odd lanes are left, and the lowest of them is flipped
+-- ---- a turn of the loop: some lanes are left, and the lowest of them is flipped
 
 module _ (last : ℕ) (digits block : List ℕ) (lanes : ℕ) where
   abbrev pub doneBut : ℕ → List ℕ

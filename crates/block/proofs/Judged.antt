@@ -143,16 +143,16 @@ module _ (shape : Shape) (sums : List ℕ) where
 
   -- ---- what is mended
 
-  module _ (above-lt : aboveOf m 7 sums < 2 ^ 32) where
+  module _ (fits : aboveOf m 7 sums < 2 ^ 32) where
     abbrev naming : ℕ
     naming = namingLanes m parity sums
 
     lane-naming : (i : ℕ) → i < 32 → bit i naming ≡ oddIn sums i && not (ltb m (sumIn sums i))
     lane-naming i hi =
         bit-and i parity ((2 ^ 32 - 1) - aboveOf m 7 sums)
-        ∙ ap (λ (b : Bool). bit i parity && b) (bit-not 32 i (aboveOf m 7 sums) hi above-lt ∙ ap not (lane-above i))
+        ∙ ap (λ (b : Bool). bit i parity && b) (bit-not 32 i (aboveOf m 7 sums) hi fits ∙ ap not (lane-above i))
 
-    -- the sum of such a lane is that of a row
+    -- the sum of such a lane is below the rows
     pub named-low : (i : ℕ) → i < 32 → bit i naming ≡ true → sumIn sums i < rows shape
     named-low i hi e =
         let low = both (oddIn sums i) (not (ltb m (sumIn sums i))) (sym (lane-naming i hi) ∙ e) .1 in

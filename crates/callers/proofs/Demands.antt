@@ -150,24 +150,23 @@ seen-words {seen} {block} e w = ap seenWords e ∙ ap (λ (words : List ℕ). bl
 
 turn-passes : {lent image words after report : List ℕ} {number : ℕ} → TurnCall lent image number words after report → number ≡ 0
     → {between verdict : List ℕ} {visited : ℕ} → VisitCall image (recordOf lent .layout) (recordOf lent .rota .next) visited between verdict
-    → (visited ≡ 0) × CallerTurning (recordOf lent) report after between verdict
+    → CallerTurning (recordOf lent) report after visited between verdict
 turn-passes {lent} {image} {words} {after} {report} c z {between} {verdict} v =
     let r = recordOf lent in
     let told = turn-said c in
     let said = visit-said v in
     let p = turns r image refl refl in
     let d = demand-2 .turn r image _ _ p (sym (told .0) ∙ z) _ _ (visits image (r .layout) (r .rota .next) refl (v .leaves)) in
-    let left = c .leaves ∙ sym (p .leaves) in (
-      said .0 ∙ d .accepted,
-      record {
-        first = ap (take visitWidth) (told .1) ∙ seen-words (d .first) (said .1);
-        alone = λ e. let a = d .alone e in (ap (drop visitWidth) (told .1) ∙ ap seenWords (a .0), left ∙ a .1);
-        asked = λ block rest e {number} {last} {other} w.
-            let tells = visit-said w in
-            let a = d .asked block rest e _ _ (visits between (r .layout) block refl (w .leaves)) in
-            (tells .0 ∙ a .0, ap (drop visitWidth) (told .1) ∙ seen-words (a .1) (tells .1), left ∙ a .2);
-      },
-    )
+    let left = c .leaves ∙ sym (p .leaves) in
+    record {
+      accepted = said .0 ∙ d .accepted;
+      first = ap (take visitWidth) (told .1) ∙ seen-words (d .first) (said .1);
+      alone = λ e. let a = d .alone e in (ap (drop visitWidth) (told .1) ∙ ap seenWords (a .0), left ∙ a .1);
+      asked = λ block rest e {number} {last} {other} w.
+          let tells = visit-said w in
+          let a = d .asked block rest e _ _ (visits between (r .layout) block refl (w .leaves)) in
+          (tells .0 ∙ a .0, ap (drop visitWidth) (told .1) ∙ seen-words (a .1) (tells .1), left ∙ a .2);
+    }
 
 pub caller-demand-2 : CallerDemand2
 caller-demand-2 = record { visit = visit-mends; write = write-stores; read = read-mends; turn = turn-passes }

@@ -51,10 +51,11 @@ pub record CallerDemand1 : Type 1 where
   pub turn : {lent image words after report : List ℕ} {number : ℕ} → length lent ≡ recordWidth → TurnCall lent image number words after report
       → CallerRefusing (Ruled (turnRules (recordOf lent) (length image))) number ((words ≡ lent) × (after ≡ image) × (report ≡ replicate reportWidth 0))
 
--- ---- demand 2: where the call is accepted, its words are those of an answer of which the demand holds
+-- ---- demand 2: where the call is accepted, its words are those of an answer of which the demand holds, or a turn's those of its visits
 
--- a turn's words are its blocks, each with the words that a visit of it gives: the block that is next, and then the ask at place 1
-pub record CallerTurning (r : Record) (report after between verdict : List ℕ) : Type 0 where
+-- a turn's words are its blocks, each with the words that a visit of it gives: the block that is next, then the ask at place 1
+pub record CallerTurning (r : Record) (report after : List ℕ) (visited : ℕ) (between verdict : List ℕ) : Type 0 where
+  pub accepted : visited ≡ 0
   pub first : take visitWidth report ≡ r .rota .next ∷ verdict
   pub alone : asksOf (r .rota .line) ≡ [] → (drop visitWidth report ≡ replicate visitWidth 0) × (after ≡ between)
   pub asked : (block : ℕ) (rest : List ℕ) → asksOf (r .rota .line) ≡ block ∷ rest
@@ -76,7 +77,7 @@ pub record CallerDemand2 : Type 0 where
       × (verdict ≡ answerWords answer)
   pub turn : {lent image words after report : List ℕ} {number : ℕ} → TurnCall lent image number words after report → number ≡ 0
       → {between verdict : List ℕ} {visited : ℕ} → VisitCall image (recordOf lent .layout) (recordOf lent .rota .next) visited between verdict
-      → (visited ≡ 0) × CallerTurning (recordOf lent) report after between verdict
+      → CallerTurning (recordOf lent) report after visited between verdict
 
 -- ---- demand 3: of whatever the caller keeps after a format and a list of steps
 

@@ -22,7 +22,7 @@ use Rattle.store.specs.Write.{writeAfter, Writes}
 use Rattle.store.specs.Read.{readAnswer, readBuffer, mendedData, Reads}
 use Rattle.store.specs.Visit.{visitAnswer, visitAfter, Visits}
 use Rattle.store.proofs.Promises.{writes-answer, reads-answer, visits-answer}
-use Rattle.store.proofs.After.{visit-held, visit-untouched, write-held, write-untouched}
+use Rattle.store.proofs.After.{visit-held, visit-words, visit-untouched, write-held, write-untouched}
 use Rattle.store.proofs.Image.{length-gathered, gathered-words, placed-gathered}
 use Rattle.store.proofs.Ladder.{data-accepted}
 use Rattle.demands.specs.Demand2.{Visiting, Writing, Reading, Demand2}
@@ -63,6 +63,7 @@ module _ (image : List ℕ) (layout : Layout) (block : ℕ) where
         lost-unaltered = λ l. unaltered e (lost-left (lost-same shape found small long l));
         clean-unaltered = λ c. let z = clean-numbers shape found small long c in unaltered e (clean-same shape found small long (z .0) (z .1));
         untouched = visit-untouched image layout block;
+        words = visit-words image layout block fits;
       })
 
   pub write-stores : (list : List ℕ) → Fitting list → dataRefusal (length image) layout block (length list) ≡ 0

@@ -106,7 +106,7 @@ module _ (shape : Shape) (found : List ℕ) (fits : Fitting found) (long : rows 
       record {
         mended = λ ne. left-meant (kept-count kinds lost changed ne .0);
         count = λ ne. kept-count kinds lost changed ne .1;
-        no-second = λ ne. kept-count kinds lost changed ne .2;
+        no-beyond = λ ne. kept-count kinds lost changed ne .2;
         only = left-only;
         lost = (
           λ says other m. three-lost kinds lost changed says (near-none shape found long other (m .valid) (m .near)),
@@ -119,7 +119,7 @@ module _ (shape : Shape) (found : List ℕ) (fits : Fitting found) (long : rows 
         lanes = λ says.
             subst (λ (s : Said). CountsLanes (s .count + s .beyond) (LaneLost shape found)) (sym (says-lost says))
             (subst (λ (n : ℕ). CountsLanes n (LaneLost shape found)) (sym (kinds-lost shape found)) (lanes-counted shape found));
-        within-one = one-beyond shape found;
+        one-no-beyond = one-beyond shape found;
         range = counts kinds 32 lost changed (kinds-lost shape found) (few-lost shape found) (λ e. few-changed shape found left (left-meant e .near));
         clean = (
           λ says. let z = clean-none kinds lost changed says in clean-valid (z .0) (z .1),

@@ -15,7 +15,7 @@ use Rattle.layout.specs.Layout.{shapeOf, blocks}
 use Rattle.layout.specs.Refusal.{imageRefusal, blockRefusal}
 use Rattle.layout.proofs.Ladder.{block-accepted}
 use Rattle.store.specs.declared.Answer.{Answer}
-use Rattle.store.specs.Answer.{answerNumber, answerSaid}
+use Rattle.store.specs.Answer.{answerSaid}
 use Rattle.store.specs.Image.{gathered}
 use Rattle.store.specs.Visit.{visitAfter, Visits}
 use Rattle.store.proofs.After.{visit-untouched}

@@ -65,7 +65,7 @@ pub record Mends (shape : Shape) (found left : List ℕ) (answer : Answer) : Typ
   -- not lost: what is left is the block that was meant, and the count is the bits that differ before and after
   pub mended : (SaysLost answer → ⊥) → Meant shape found left
   pub count : (SaysLost answer → ⊥) → answerSaid answer .count ≡ bitsChanged shape found left
-  pub no-second : (SaysLost answer → ⊥) → answerSaid answer .beyond ≡ 0
+  pub no-beyond : (SaysLost answer → ⊥) → answerSaid answer .beyond ≡ 0
   -- there is never a second one
   pub only : (other : List ℕ) → Meant shape found other → SameRows shape other left
   -- lost exactly if there is none; the two counts are the lanes that are even with a sum, and those that are odd with a sum of rows or more
@@ -75,7 +75,7 @@ pub record Mends (shape : Shape) (found left : List ℕ) (answer : Answer) : Typ
   -- these are the lost lanes, and together the counts are all of them; in shape 1 no sum is beyond the rows
   pub kinds : (i : ℕ) → LaneLost shape found i ↔ (LaneLostAs even shape found i ⊎ LaneLostAs beyond shape found i)
   pub lanes : SaysLost answer → CountsLanes (answerSaid answer .count + answerSaid answer .beyond) (LaneLost shape found)
-  pub within-one : shape ≡ One → answerSaid answer .beyond ≡ 0
+  pub one-no-beyond : shape ≡ One → answerSaid answer .beyond ≡ 0
   -- not clean: the two counts together, of which a mend has one, are from 1 to 32
   pub range : (SaysClean answer → ⊥) → (1 ≤ answerSaid answer .count + answerSaid answer .beyond)
       × (answerSaid answer .count + answerSaid answer .beyond ≤ 32)
@@ -85,7 +85,7 @@ pub record Mends (shape : Shape) (found left : List ℕ) (answer : Answer) : Typ
   -- mended where it is neither
   pub else-mended : (SaysClean answer → ⊥) → (SaysLost answer → ⊥) → SaysMended answer
 
--- ---- the three calls, accepted
+-- ---- the calls, accepted
 
 pub record Visiting (image : List ℕ) (layout : Layout) (block : ℕ) (answer : Answer) (after : List ℕ) : Type 0 where
   pub mends : Mends (shapeOf layout) (gathered layout block image) (gathered layout block after) answer
@@ -93,6 +93,8 @@ pub record Visiting (image : List ℕ) (layout : Layout) (block : ℕ) (answer :
   pub lost-unaltered : SaysLost answer → after ≡ image
   pub clean-unaltered : SaysClean answer → after ≡ image
   pub untouched : Untouched layout block image after
+  -- what is left are 32-bit words again, so that the demand holds of a visit after it
+  pub words : Fitting after
 
 pub record Writing (image : List ℕ) (layout : Layout) (block : ℕ) (list after : List ℕ) : Type 0 where
   pub valid : ValidBlock (shapeOf layout) (gathered layout block after)
@@ -107,12 +109,12 @@ pub record Reading (layout : Layout) (block : ℕ) (buffer : List ℕ) (answer :
   pub mended : (SaysLost answer → ⊥) → filled ≡ dataOf (shapeOf layout) (gathered layout block after)
   pub stays : SaysLost answer → filled ≡ buffer
 
--- a turn, with what a visit of the block that is next would answer and leave
+-- with what a visit of the block that is next would answer and leave
 pub record Turning (r : Record) (answer : Turned) (after : List ℕ) (visited : Answer) (between : List ℕ) : Type 0 where
   pub accepted : answerNumber visited ≡ 0
   pub first : reportFirst (answer .report) ≡ record { block = r .rota .next; said = answerSaid visited }
   pub alone : asksOf (r .rota .line) ≡ [] → (reportSecond (answer .report) ≡ unseen) × (after ≡ between)
-  -- and then one of the ask at place 1
+  -- then a visit of the ask at place 1
   pub asked : (block : ℕ) (rest : List ℕ) → asksOf (r .rota .line) ≡ block ∷ rest
       → (other : Answer) (last : List ℕ) → Visits between (r .layout) block other last
       → (answerNumber other ≡ 0) × (reportSecond (answer .report) ≡ record { block = block; said = answerSaid other }) × (after ≡ last)

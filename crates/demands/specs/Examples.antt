@@ -3,14 +3,15 @@
 use Prim.Native.Nat.{ℕ, zero, suc, _-_}
 use Prim.Native.String.{String}
 use mathlib.Core.List.{List, [], _∷_, _++_}
-use lib.ListN.{set, replicate}
+use lib.ListN.{set, take, replicate}
 use Rattle.shape.specs.declared.Shape.{Shape}
 use Rattle.shape.specs.declared.Shape.the-variants.{One, Two}
 use Rattle.block.specs.Block.{blank, validBlock, mendedBlock}
-use Rattle.block.specs.Verdict.{toSay, saidWords, verdictOf}
+use Rattle.block.specs.Verdict.{toSay, saidWords}
 use Rattle.layout.specs.Layout.{layoutOf, index}
 use Rattle.text.specs.Text.{ascii}
-use Rattle.report.specs.Lines.{blockLine}
+use Rattle.text.specs.Page.{endToEnd}
+use Rattle.report.specs.Report.{imageReport}
 
 pub record Example : Type 0 where
   pub gives : List ℕ
@@ -42,9 +43,9 @@ mends shape found bits after = visits shape found 2 bits 0 after
 abbrev pub loses : Shape → List ℕ → ℕ → ℕ → Example
 loses shape found even beyond = visits shape found 3 even beyond found
 
--- what the inspecting program prints of such a block, were it block 0
-abbrev pub prints : Shape → List ℕ → String → Example
-prints shape found text = record { gives = blockLine 0 (verdictOf shape found); must = ascii text }
+-- inspecting: all that is printed of an image of one block
+abbrev pub prints : ℕ → List ℕ → String → Example
+prints shape image text = record { gives = endToEnd (imageReport image (layoutOf shape 1 1)); must = ascii text }
 
 abbrev pub ones : ℕ
 ones = 0xFFFFFFFF
@@ -71,7 +72,8 @@ examples =
     ∷ mends One (blank with ones in-rows (16 ∷ [])) 32 blank
     -- 7: rows 3 and 5 = 1: lost 1 0, unchanged
     ∷ loses One (blank with 1 in-rows (3 ∷ 5 ∷ [])) 1 0
-    ∷ prints One (blank with 1 in-rows (3 ∷ 5 ∷ [])) "block 0 lost 1 0\n"
+    ∷ prints 1 (take 16 (blank with 1 in-rows (3 ∷ 5 ∷ [])))
+    "image shape 1 interleave 1 groups 1 blocks 1\nblock 0 lost 1 0\ntotal clean 0 mended 0 lost 1 bits 0\n"
     -- 8: row 3 = 1, row 5 = 2: mended 2
     ∷ mends One (blank with 1 in-rows (3 ∷ []) with 2 in-rows (5 ∷ [])) 2 blank
     -- 9: rows 3 and 5 = 1, row 9 = 2: lost 1 0; row 9 stays 2
@@ -80,7 +82,8 @@ examples =
     ∷ mends One (blank with 1 in-rows (1 ∷ 2 ∷ 4 ∷ [])) 1 (blank with 1 in-rows (1 ∷ 2 ∷ 4 ∷ 7 ∷ []))
     -- 11: shape 2, rows 1, 9 and 64 = 1: sum 72, odd: lost 0 1
     ∷ loses Two (blank with 1 in-rows (1 ∷ 9 ∷ 64 ∷ [])) 0 1
-    ∷ prints Two (blank with 1 in-rows (1 ∷ 9 ∷ 64 ∷ [])) "block 0 lost 0 1\n"
+    ∷ prints 2 (blank with 1 in-rows (1 ∷ 9 ∷ 64 ∷ []))
+    "image shape 2 interleave 1 groups 1 blocks 1\nblock 0 lost 0 1\ntotal clean 0 mended 0 lost 1 bits 0\n"
     -- 12: shape 2, s = 6, block 7: row 1 at index 433, row 72 at 859
     ∷ record { gives = index (layoutOf 2 6 2) 7 1 ∷ index (layoutOf 2 6 2) 7 72 ∷ []; must = 433 ∷ 859 ∷ [] }
     ∷ []

@@ -1,7 +1,7 @@
 -- A lane is lost as exactly one of the two kinds, each exactly for its reason; where the rows are a power of two no sum is beyond them. Assumes nothing.
 use Prim.Native.Nat.{ℕ, zero, suc, _+_, _^_, _≤_}
 use mathlib.Core.Bool.{Bool, true, false, true≢false, _||_}
-use mathlib.Core.Path.{_≡_, refl, sym, _∙_}
+use mathlib.Core.Path.{_≡_, refl, sym}
 use mathlib.Core.Logic.{_⊎_, inl, inr, ⊎-elim, _↔_}
 use native.Mathlib.Omega.{arith}
 use borrow.Author.Tests.{lt-leb}

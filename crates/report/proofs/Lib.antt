@@ -1,3 +1,4 @@
+pub mod Short
 pub mod Counts
 pub mod VerdictLine
 pub mod Visited

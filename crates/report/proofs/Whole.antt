@@ -1,6 +1,5 @@
 -- A file has at most 8,176 words and a report at most 10,204 bytes, so that buffers of those sizes hold them whole. Assumes nothing.
 use Prim.Native.Nat.{ℕ, zero, suc, _+_, _-_, _*_, _≤_, _<_}
-use Prim.Native.String.{String}
 use mathlib.Core.Bool.{Bool, true, cond, _&&_}
 use mathlib.Core.Path.{_≡_, refl, sym, ap, _∙_}
 use mathlib.Core.List.{List, [], _∷_, _++_}
@@ -20,7 +19,7 @@ use Rattle.block.specs.declared.Verdict.the-variants.{Clean, Mended, Lost}
 use Rattle.block.specs.Verdict.{verdictCount, verdictBeyond, verdictOf}
 use Rattle.block.proofs.Told.{beyond-one}
 use Rattle.layout.specs.declared.Layout.{Layout}
-use Rattle.layout.specs.Layout.{shapeNumbered, shapeOf, blocks}
+use Rattle.layout.specs.Layout.{shapeOf, blocks}
 use Rattle.store.specs.Image.{gathered}
 use Rattle.ground.specs.Rules.{Rule, FirstOf}
 use Rattle.layout.proofs.Ladder.{Geometry}
@@ -34,37 +33,17 @@ use Rattle.file.specs.Header.{headerIf, headerOf}
 use Rattle.file.proofs.Ladder.{Accepted, accepted, file-first}
 use Rattle.report.specs.declared.Tally.{Tally}
 use Rattle.ground.proofs.Bools.{left-part, right-part}
-use Rattle.text.specs.Text.{ascii, decimal, named, lineEnd}
+use Rattle.text.specs.Text.{decimal}
 use Rattle.text.specs.Page.{Page, page, writtenAll, endToEnd}
-use Rattle.report.specs.Lines.{refusalLine, imageLine, verdictText, blockLine, totalLine, counted}
+use Rattle.report.specs.Lines.{refusalLine, imageLine, verdictParts, blockLine, totalLine, counted}
 use Rattle.report.specs.Report.{visitedBelow, blockLines, tallyBelow, verdictAt, imageReport, reportFor, reportOf, Inspects}
 use Rattle.report.specs.Inner.{room?, Reports}
+use Rattle.report.proofs.Short.{Short, _and_, named-short, any-length, loosely, one-end, nothing, and-then, one-text, one-number}
 use Rattle.report.proofs.Counts.{Within, verdict-most, tally-within}
 use Rattle.text.proofs.Decimal.{decimal-short}
 use Rattle.text.proofs.Pages.{all-fit}
 
 -- ---- the lines
-
--- a text of at most so many bytes
-record Short (text : List ℕ) (most : ℕ) : Type 0 where
-  few : length text ≤ most
-
-infixl 65 _and_
-_and_ : {a b : List ℕ} {m n : ℕ} → Short a m → Short b n → Short (a ++ b) (m + n)
-_and_ {a} {b} {m} {n} h k = record { few = omega (arith, length-append a b, h .few, k .few) }
-
--- a text and a number of at most so many digits
-named-short : (text : String) (n most : ℕ) → length (decimal n) ≤ most → Short (named text n) (length (ascii text) + most)
-named-short text n most h = record { few = omega (arith, length-append (ascii text) (decimal n)) }
-
-any-length : (text : List ℕ) → Short text (length text)
-any-length text = record { few = omega arith }
-
-loosely : {text : List ℕ} {few most : ℕ} → Short text few → few ≤ most → Short text most
-loosely h k = record { few = omega (arith, h .few) }
-
-one-end : Short lineEnd 1
-one-end = any-length lineEnd
 
 -- a number has one digit, one more from 10 on, and one more from 100 on
 digits : (n : ℕ) → n < 1000 → length (decimal n) + (n - 10) + (n - 100) ≤ 1 + (suc n - 10) + (suc n - 100)
@@ -133,17 +112,23 @@ second-digits Two block h = decimal-short 1 (verdictBeyond (verdictOf Two block)
 
 -- the line of a clean block is two bytes shorter
 verdict-short : (v : Verdict) (tally : Tally) (more : ℕ) → verdictCount v ≤ 32 → length (decimal (verdictBeyond v)) ≤ 1 + more
-    → length (verdictText v) + 2 * counted v tally .clean ≤ 10 + more + 2 * tally .clean
-verdict-short Clean tally more h k = omega (arith, named-short " clean " 0 1 (decimal-short 0 0 (omega arith)) .few)
-verdict-short (Mended m) tally more h k = omega (arith, named-short " mended " m 2 (decimal-short 1 m (omega arith)) .few)
+    → length (endToEnd (verdictParts v)) + 2 * counted v tally .clean ≤ 10 + more + 2 * tally .clean
+verdict-short Clean tally more h k =
+    let short = and-then (one-text " clean ") (and-then (one-number 0 0 (omega arith)) nothing) in
+    omega (arith, short .few)
+verdict-short (Mended m) tally more h k =
+    let short = and-then (one-text " mended ") (and-then (one-number m 1 (omega arith)) nothing) in
+    omega (arith, short .few)
 verdict-short (Lost e b) tally more h k =
-    omega (arith, (named-short " lost " e 2 (decimal-short 1 e (omega arith)) and named-short " " b (1 + more) k) .few)
+    let last = and-then (one-text " ") (and-then (any-length (decimal b)) nothing) in
+    let short = and-then (one-text " lost ") (and-then (one-number e 1 (omega arith)) last) in
+    omega (arith, short .few)
 
 block-short : (block : ℕ) (v : Verdict) (tally : Tally) (more : ℕ) → verdictCount v ≤ 32 → length (decimal (verdictBeyond v)) ≤ 1 + more
     → length (blockLine block v) + 2 * counted v tally .clean ≤ 17 + more + length (decimal block) + 2 * tally .clean
 unfolding blockLine
 block-short block v tally more c d =
-    let line = named-short "block " block (length (decimal block)) (omega arith) and any-length (verdictText v) and one-end in
+    let line = named-short "block " block (length (decimal block)) (omega arith) and any-length (endToEnd (verdictParts v)) and one-end in
     omega (arith, line .few, verdict-short v tally more c d)
 
 -- the digits of the clean are paid for by those two bytes
@@ -211,7 +196,7 @@ report-short image layout ok h =
 
 -- ---- the report of a file
 
--- a file has room for no more, and 8,176 words
+-- a file has room for no more blocks than these, and for 8,176 words
 pub file-most : (bytes : List ℕ) → Accepted bytes → (blocks (layoutIn bytes) ≤ most (shapeOf (layoutIn bytes))) × (wordCount (length bytes) ≤ 8176)
 file-most bytes ok =
     let size : Shape → ℕ = λ (shape : Shape). 4 * (rows shape * blocks (layoutIn bytes)) in

@@ -1,33 +1,20 @@
--- What the code computes on its way: a verdict put part by part, a tally that has room, and a report with an image lent. Assumes nothing.
+-- What the code computes on its way: a tally that has room, and a report with an image lent. Assumes nothing.
 use Prim.Native.Nat.{ℕ, _≤_}
-use Prim.Native.String.{String}
 use mathlib.Core.Bool.{Bool, true, cond}
 use mathlib.Core.Path.{_≡_}
 use mathlib.Core.List.{List, _++_}
 use lib.Dec.{leb}
 use lib.ListN.{length, drop}
 use Rattle.block.specs.declared.Verdict.{Verdict}
-use Rattle.block.specs.declared.Verdict.the-variants.{Clean, Mended, Lost}
 use Rattle.block.specs.Verdict.{verdictCount}
 use Rattle.layout.specs.Layout.{blocks}
 use Rattle.file.specs.declared.Header.{Header}
 use Rattle.file.specs.declared.Header.the-variants.{Refused, Image}
 use Rattle.file.specs.Bytes.{wordCount, wordsIn}
 use Rattle.file.specs.Header.{headerOf}
-use Rattle.text.specs.Text.{ascii, decimal}
-use Rattle.text.specs.Page.{Page, page, written, writtenAll}
+use Rattle.text.specs.Page.{page, writtenAll}
 use Rattle.report.specs.declared.Tally.{Tally}
 use Rattle.report.specs.Report.{visitedBelow, reportOf}
-
--- a text and a number after it, each where it fits
-abbrev pub putNamed : String → ℕ → Page → Page
-putNamed text n p = written (decimal n) (written (ascii text) p)
-
--- the parts of a verdict's text
-abbrev pub putVerdict : Verdict → Page → Page
-putVerdict Clean p = putNamed " clean " 0 p
-putVerdict (Mended bits) p = putNamed " mended " bits p
-putVerdict (Lost even beyond) p = putNamed " " beyond (putNamed " lost " even p)
 
 -- a tally of at most 4,096 blocks, and a verdict of at most 32 bits
 pub record Countable (verdict : Verdict) (tally : Tally) : Type 0 where

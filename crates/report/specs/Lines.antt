@@ -1,12 +1,13 @@
 -- The lines that are printed: the image line; for each block its number, its verdict and the verdict's count, 0 for clean, or its two for lost;
 -- the blocks of each verdict and all bits mended; and for a refusal one line, `refused` and the number. Assumes nothing.
 use Prim.Native.Nat.{ℕ, _+_}
-use mathlib.Core.List.{List, _++_}
+use mathlib.Core.List.{List, [], _∷_, _++_}
 use Rattle.block.specs.declared.Verdict.{Verdict}
 use Rattle.block.specs.declared.Verdict.the-variants.{Clean, Mended, Lost}
 use Rattle.layout.specs.declared.Layout.{Layout}
 use Rattle.report.specs.declared.Tally.{Tally}
-use Rattle.text.specs.Text.{named, lineEnd}
+use Rattle.text.specs.Text.{ascii, decimal, named, lineEnd}
+use Rattle.text.specs.Page.{endToEnd}
 
 unfoldable pub refusalLine : ℕ → List ℕ
 refusalLine number = named "refused " number ++ lineEnd
@@ -15,14 +16,14 @@ unfoldable pub imageLine : Layout → ℕ → List ℕ
 imageLine layout blocks =
     named "image shape " (layout .shape) ++ named " interleave " (layout .s) ++ named " groups " (layout .g) ++ named " blocks " blocks ++ lineEnd
 
--- of lost the lanes with even parity, and those with an odd sum beyond the rows
-abbrev pub verdictText : Verdict → List ℕ
-verdictText Clean = named " clean " 0
-verdictText (Mended bits) = named " mended " bits
-verdictText (Lost even beyond) = named " lost " even ++ named " " beyond
+-- the verdict and its count; of lost the lanes with even parity, and those with an odd sum beyond the rows
+abbrev pub verdictParts : Verdict → List (List ℕ)
+verdictParts Clean = ascii " clean " ∷ decimal 0 ∷ []
+verdictParts (Mended bits) = ascii " mended " ∷ decimal bits ∷ []
+verdictParts (Lost even beyond) = ascii " lost " ∷ decimal even ∷ ascii " " ∷ decimal beyond ∷ []
 
 unfoldable pub blockLine : ℕ → Verdict → List ℕ
-blockLine block verdict = named "block " block ++ verdictText verdict ++ lineEnd
+blockLine block verdict = named "block " block ++ endToEnd (verdictParts verdict) ++ lineEnd
 
 unfoldable pub totalLine : Tally → List ℕ
 totalLine tally =

@@ -1,9 +1,8 @@
 // The lines of a report, each written at a place of a lent buffer; answers the next place.
 // A line that does not fit is not written, and the place stays.
 ghost use mathlib.Core.Path.{_≡_};
-ghost use Rattle.text.specs.Page.{page, written};
-ghost use Rattle.report.specs.Lines.{refusalLine, imageLine, blockLine, totalLine};
-ghost use Rattle.report.specs.Inner.{putVerdict};
+ghost use Rattle.text.specs.Page.{page, written, writtenAll};
+ghost use Rattle.report.specs.Lines.{refusalLine, imageLine, verdictParts, blockLine, totalLine};
 use super::Tally;
 use block::Verdict;
 use layout::Layout;
@@ -33,7 +32,7 @@ pub(crate) fn image_line(layout: Layout, blocks: u32, out: &mut [u8], at: usize)
 
 // The verdict and its count, or its two for lost.
 fn put_verdict(verdict: Verdict, line: &mut [u8], at: usize) -> usize
-    ensures { λ r. ⌜ page (now (line .exit)) r ≡ putVerdict verdict (page (now (line .entry)) at) ⌝ }
+    ensures { λ r. ⌜ page (now (line .exit)) r ≡ writtenAll (verdictParts verdict) (page (now (line .entry)) at) ⌝ }
 {
     match verdict {
         Verdict::Clean => put_named(b" clean ", 0, line, at),

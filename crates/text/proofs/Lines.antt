@@ -1,14 +1,14 @@
 -- A line that is put together of parts, in a buffer with room for them all, is one text. Assumes nothing.
 use Prim.Native.Nat.{ℕ, _+_, _≤_}
 use Prim.Native.String.{String}
-use mathlib.Core.Path.{_≡_, refl, sym, ap, _∙_}
-use mathlib.Core.List.{List, [], _++_, append-assoc}
+use mathlib.Core.Path.{_≡_, refl, sym, ap, ap₂, _∙_}
+use mathlib.Core.List.{List, [], _∷_, _++_, append-assoc, append-nil}
 use native.Mathlib.Omega.{arith}
 use mir.Syntax.{w32}
 use mir.Val.{Fits}
 use lib.ListN.{length, take, length-append}
 use Rattle.text.specs.Text.{ascii, decimal, named}
-use Rattle.text.specs.Page.{Page, page, over, written}
+use Rattle.text.specs.Page.{Page, page, over, written, writtenAll, endToEnd}
 use Rattle.text.proofs.Decimal.{decimal-short}
 use Rattle.text.proofs.Pages.{over-front, length-over, written-fits}
 
@@ -59,6 +59,37 @@ with-named {room} {most} {at} {next} {text} {bytes} {after} line name n e small 
       place = whole .place ∙ ap length (append-assoc text part (decimal n));
       front = whole .front ∙ append-assoc text part (decimal n);
       few = omega (arith, first .few, length-append (text ++ part) (decimal n), ap length (append-assoc text part (decimal n)));
+      size = whole .size;
+      inside = whole .inside;
+    }
+
+-- texts more, one after the other
+pub with-all : {room most at next : ℕ} {text bytes after : List ℕ} → Line room most text bytes at → (parts : List (List ℕ))
+    → page after next ≡ writtenAll parts (page bytes at)
+    → most + length (endToEnd parts) ≤ room
+    → Line room (most + length (endToEnd parts)) (text ++ endToEnd parts) after next
+unfolding writtenAll endToEnd
+with-all {room} {most} {at} {next} {text} {bytes} {after} line [] e h =
+    let same = append-nil text in
+    let here : next ≡ at = ap (λ (p : Page). p .next) e in
+    let kept : after ≡ bytes = ap (λ (p : Page). p .bytes) e in
+    record {
+      place = here ∙ line .place ∙ ap length (sym same);
+      front = ap₂ take here kept ∙ line .front ∙ sym same;
+      few = omega (arith, line .few, ap length same);
+      size = ap length kept ∙ line .size;
+      inside = omega (arith, line .inside, ap length kept);
+    }
+with-all {room} {most} {at} {next} {text} {bytes} {after} line (part ∷ parts) e h =
+    let middle = written part (page bytes at) in
+    let both = length-append part (endToEnd parts) in
+    let first = with-text {bytes = bytes} {after = middle .bytes} line part refl (omega arith) in
+    let whole = with-all {bytes = middle .bytes} {after = after} first parts e (omega arith) in
+    let same = append-assoc text part (endToEnd parts) in
+    record {
+      place = whole .place ∙ ap length same;
+      front = whole .front ∙ same;
+      few = omega (arith, whole .few, ap length same);
       size = whole .size;
       inside = whole .inside;
     }

@@ -1,7 +1,8 @@
 -- `report::lines::put_verdict` meets its contract: each verdict has its text. Assumes nothing.
 use mathlib.Core.Path.{ap, _∙_}
 use borrow.Author.Needs.{needs}
-use Rattle.report.specs.Inner.{putNamed}
+use Rattle.text.specs.Text.{ascii, decimal}
+use Rattle.text.specs.Page.{Page, written, writtenAll}
 use Rattle.report.proofs.lines.put_verdict.Statement.{statement}
 use Rattle.report.proofs.lines.put_verdict.Tie as tie
 
@@ -42,6 +43,7 @@ same-length : tie.Need-same-length
 same-length c = search needs
 
 returns : tie.Need-returns
+unfolding writtenAll
 returns c =
     let put = c .before .before in
     rw (put .before .before .before .enum-told .given .1) (put .put-named .ensures)
@@ -50,6 +52,7 @@ same-length-2 : tie.Need-same-length-2
 same-length-2 c = search needs
 
 returns-2 : tie.Need-returns-2
+unfolding writtenAll
 returns-2 c =
     let put = c .before .before in
     rw (put .before .before .before .before .verdict .given .1) (put .put-named2 .ensures)
@@ -58,11 +61,14 @@ same-length-3 : tie.Need-same-length-3
 same-length-3 c = search needs
 
 returns-3 : tie.Need-returns-3
+unfolding writtenAll
 returns-3 c =
     let second = c .before .before in
     let first = second .before .before .before .before .before in
     let told = first .before .before .before .before in
-    rw (told .verdict2 .given .1) (second .put-named4 .ensures ∙ ap (putNamed " " _) (first .put-named3 .ensures))
+    let beyond = told .verdict2 .given .0 .1 .0 in
+    rw (told .verdict2 .given .1)
+    (second .put-named4 .ensures ∙ ap (λ (p : Page). written (decimal beyond) (written (ascii " ") p)) (first .put-named3 .ensures))
 
 pub put-verdict-spec : {M : Type 1} → statement M
 put-verdict-spec =
