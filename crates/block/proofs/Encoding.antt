@@ -23,7 +23,11 @@ use Rattle.lane.proofs.Exactly.{sum-lt, named-off, named-on, xorDigits, summed-
 use Rattle.shape.specs.declared.Shape.{Shape}
 use Rattle.shape.specs.declared.Shape.the-variants.{One, Two}
 use Rattle.shape.specs.Shape.{before, rows, digits}
+use Rattle.stored.specs.Stored.{complemented}
+use Rattle.stored.proofs.Forms.{length-complemented, complemented-twice}
+use Rattle.stored.proofs.Groups.{two-over}
 use Rattle.sums.specs.Words.{lane, word}
+use Rattle.ground.specs.Stores.{stores}
 use Rattle.ground.proofs.Stores.{length-stores, stores-hit, stores-miss}
 use Rattle.block.specs.Block.{dataBlock, validBlock}
 use Rattle.sums.specs.Sums.{lying, sumsOf, Looks}
@@ -290,12 +294,20 @@ eight : (block : List ℕ) → length (sumsOf Two block) ≡ 8
 unfolding sumsOf
 eight block = refl
 
--- the sums of shape 2, kept in zeros, of a data block of either shape are its own
-pub own-sums : (shape : Shape) (list : List ℕ) {block after : List ℕ} {found : ℕ} → block ≡ dataBlock shape list
+-- the sums of shape 2, kept in zeros, of a data block of either shape, as it is stored, are its own
+pub own-sums : (shape : Shape) (list : List ℕ) {block after : List ℕ} {found : ℕ} → block ≡ complemented (dataBlock shape list)
     → Looks Two block 0 1 (replicate 8 0) found after → after ≡ sumsOf shape (dataBlock shape list)
 own-sums shape list {block} {after} {found} e l =
-    let long : length block ≡ 72 = ap length e ∙ length-data shape list in
+    let long : length block ≡ 72 = ap length e ∙ length-complemented (dataBlock shape list) ∙ length-data shape list in
     let k = l .there (omega (arith, long)) in
-    kept-in-zeros _ after found (eight (lying Two block 0 1)) (k .0 ∙ sym (some-doubt Two (lying Two block 0 1)), k .1)
-    ∙ ap (sumsOf Two) (lies-whole block long ∙ e)
+    let code = complemented (lying Two block 0 1) in
+    kept-in-zeros _ after found (eight code) (k .0 ∙ sym (some-doubt Two code), k .1)
+    ∙ ap (sumsOf Two) (ap complemented (lies-whole block long ∙ e) ∙ complemented-twice (dataBlock shape list))
     ∙ sums-of-two shape list
+
+-- the check rows are set over what is stored complemented
+pub checks-over : (digits block : List ℕ) → withChecks digits (complemented block) ≡ withChecks digits block
+unfolding withChecks stores
+checks-over digits block =
+    let d : ℕ → ℕ = λ k. getD digits k 0 in
+    ap (λ (l : List ℕ). set (set (set (set (set l 3 (d 2)) 7 (d 3)) 15 (d 4)) 31 (d 5)) 63 (d 6)) (two-over block (d 0) (d 1))

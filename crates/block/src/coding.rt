@@ -61,6 +61,8 @@ pub fn encode(shape: Shape, list: &[u32]) -> [u32; MOST_ROWS]
         Shape::One => spread(&DATA_ONE, list, &mut block),
         Shape::Two => spread(&DATA_TWO, list, &mut block),
     }
+    // Sums are taken of stored words; the check rows are then set over rows 1 and 2.
+    stored::complement_block(&mut block);
     // Rows past the last of shape 1 are zero and add nothing: the sums of shape 2 serve both.
     let mut sums = [0u32; SUM_WORDS];
     sums::beside(&block, 0, &mut sums);

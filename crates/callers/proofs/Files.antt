@@ -9,7 +9,7 @@ use Rattle.layout.specs.declared.Layout.{Layout}
 use Rattle.layout.specs.Layout.{layoutOf}
 use Rattle.file.specs.declared.Header.{Header}
 use Rattle.file.specs.declared.Header.the-variants.{Image}
-use Rattle.file.specs.Bytes.{FittingBytes, layoutIn, wordsIn}
+use Rattle.file.specs.Bytes.{FittingBytes, versionIn, layoutIn, imageIn}
 use Rattle.file.specs.Refusal.{readRefusal}
 use Rattle.file.specs.Reason.{fileRules, readRules, writeRules}
 use Rattle.file.specs.Header.{headerNumber, headerLayout, headerIf, headerOf, HeaderTells, HeaderRead, ReadsFile}
@@ -18,11 +18,11 @@ use Rattle.file.proofs.Headers.{tells-if, header-read}
 use Rattle.file.proofs.FileWrites.{file-written}
 use Rattle.words.specs.Layouts.{layoutHeld, layoutWords}
 use Rattle.foldgrebe.specs.FileCalls.{FileWriteCall, FileLayoutCall, FileReadCall}
-use Rattle.demands.specs.RoundTrip.{Read, whole}
+use Rattle.demands.specs.RoundTrip.{Read, whole, renewed}
 use Rattle.demands.proofs.Files.{file-demand}
 use Rattle.demands.proofs.RoundTrip.{file-round-trip}
 use Rattle.callers.specs.Demands.{CallerRefusing}
-use Rattle.callers.specs.Files.{CallerWrote, CallerBack, CallerFiles}
+use Rattle.callers.specs.Files.{CallerWrote, CallerWritten, CallerBack, CallerFiles}
 use Rattle.callers.proofs.Demands.{refusing}
 
 -- ---- what a call tells is the answer of the code that it calls
@@ -92,7 +92,7 @@ layout-told : {bytes kept words : List ℕ} {number : ℕ} → FileLayoutCall by
 layout-told c z = (c .keeps, c .says ∙ rw (sym (c .answers) ∙ z))
 
 words-copied : {bytes image kept after words : List ℕ} {number : ℕ} → FileReadCall bytes image number kept after words → number ≡ 0
-    → (kept ≡ bytes) × (words ≡ layoutWords (layoutIn bytes)) × (after ≡ wordsIn bytes)
+    → (kept ≡ bytes) × (words ≡ layoutWords (layoutIn bytes)) × (after ≡ imageIn bytes)
 words-copied c z = let none = sym (c .answers) ∙ z in (c .keeps, c .says ∙ rw none, c .leaves ∙ rw none)
 
 module _ {image buffer kept after written : List ℕ} {layout : Layout} {number : ℕ}
@@ -133,15 +133,38 @@ module _ {image buffer kept after written : List ℕ} {layout : Layout} {number 
             (read-so r .0 ∙ passed, read-so r .1 ∙ ap layoutWords (same .0), same .1);
       }
 
-file-again : {bytes lent kept image words : List ℕ} {number : ℕ} → FittingBytes bytes → FileReadCall bytes lent number kept image words → number ≡ 0
-    → {buffer kept' after written : List ℕ} {number' : ℕ} → length bytes ≤ length buffer
-    → FileWriteCall image (layoutHeld words) buffer number' kept' after written
-    → (number' ≡ 0) × (written ≡ length bytes ∷ []) × (take (length bytes) after ≡ bytes) × (drop (length bytes) after ≡ drop (length bytes) buffer)
-file-again {bytes} {lent} {kept} {image} {words} fits c z {buffer} l w =
-    let named : layoutHeld words ≡ headerLayout (readOf bytes lent) = ap layoutHeld (read-so c .1) in
-    let r : Read bytes (layoutHeld words) image = rw named (whole _ lent kept image (read c) (sym (read-so c .0) ∙ z)) in
-    let a = file-round-trip .again bytes (layoutHeld words) image fits r buffer _ _ _ l (wrote w) in
-    (wrote-number w ∙ a .accepted, wrote-bytes w ∙ ap (λ (count : ℕ). count ∷ []) (a .count), a .same, a .past)
+module _ {bytes lent kept image words : List ℕ} {number : ℕ} (fits : FittingBytes bytes) where
+  -- what was read is what a demand on reading speaks of
+  was-read : FileReadCall bytes lent number kept image words → number ≡ 0 → Read bytes (layoutHeld words) image
+  was-read c z =
+      let named : layoutHeld words ≡ headerLayout (readOf bytes lent) = ap layoutHeld (read-so c .1) in
+      rw named (whole _ lent kept image (read c) (sym (read-so c .0) ∙ z))
+
+  file-again : versionIn bytes ≡ 2 → FileReadCall bytes lent number kept image words → number ≡ 0
+      → {buffer kept' after written : List ℕ} {number' : ℕ} → length bytes ≤ length buffer
+      → FileWriteCall image (layoutHeld words) buffer number' kept' after written
+      → CallerWritten bytes buffer bytes number' after written
+  file-again version c z {buffer} l w =
+      let a = file-round-trip .again bytes (layoutHeld words) image fits version (was-read c z) buffer _ _ _ l (wrote w) in
+      record {
+        accepted = wrote-number w ∙ a .accepted;
+        count = wrote-bytes w ∙ ap (λ (count : ℕ). count ∷ []) (a .count);
+        is = a .same;
+        past = a .past;
+      }
+
+  file-new : versionIn bytes ≡ 1 → FileReadCall bytes lent number kept image words → number ≡ 0
+      → {buffer kept' after written : List ℕ} {number' : ℕ} → length bytes ≤ length buffer
+      → FileWriteCall image (layoutHeld words) buffer number' kept' after written
+      → CallerWritten bytes buffer (renewed bytes) number' after written
+  file-new version c z {buffer} l w =
+      let a = file-round-trip .new bytes (layoutHeld words) image fits version (was-read c z) buffer _ _ _ l (wrote w) in
+      record {
+        accepted = wrote-number w ∙ a .accepted;
+        count = wrote-bytes w ∙ ap (λ (count : ℕ). count ∷ []) (a .count);
+        is = a .file;
+        past = a .past;
+      }
 
 pub caller-files : CallerFiles
 caller-files =
@@ -154,4 +177,5 @@ caller-files =
       copied = words-copied;
       back = file-back;
       again = file-again;
+      new = file-new;
     }

@@ -16,14 +16,17 @@ use Rattle.layout.specs.Refusal.{blockRefusal}
 use Rattle.store.specs.declared.Answer.{Answer}
 use Rattle.store.specs.declared.Answer.the-variants.{Found}
 use Rattle.store.specs.Answer.{answerNumber}
-use Rattle.store.specs.Image.{gathered}
+use Rattle.stored.specs.Stored.{complemented}
+use Rattle.stored.proofs.Forms.{complemented-fits, complemented-twice}
+use Rattle.store.specs.Image.{storedRows, gathered}
 use Rattle.store.specs.Refusal.{dataRefusal}
 use Rattle.store.specs.Write.{writeAfter, Writes}
 use Rattle.store.specs.Read.{readAnswer, readBuffer, mendedData, Reads}
 use Rattle.store.specs.Visit.{visitAnswer, visitAfter, Visits}
 use Rattle.store.proofs.Promises.{writes-answer, reads-answer, visits-answer}
 use Rattle.store.proofs.After.{visit-held, visit-words, visit-untouched, write-held, write-untouched}
-use Rattle.store.proofs.Image.{length-gathered, gathered-words, placed-gathered}
+use Rattle.store.proofs.Image.{length-rows, rows-words, placed-gathered}
+use Rattle.store.proofs.StoredBlocks.{data-stored, same-stored}
 use Rattle.store.proofs.Ladder.{data-accepted}
 use Rattle.demands.specs.Demand2.{Visiting, Writing, Reading, Demand2}
 use Rattle.demands.proofs.Numbers.{write-number, read-number, visit-number}
@@ -34,11 +37,15 @@ module _ (image : List ℕ) (layout : Layout) (block : ℕ) where
   abbrev shape : Shape
   shape = shapeOf layout
 
+  -- the rows as they are stored, and the code's block
+  abbrev stored : List ℕ
+  stored = storedRows layout block image
+
   abbrev found : List ℕ
   found = gathered layout block image
 
-  long : rows shape ≤ length found
-  long = rw (length-gathered layout block image) (rows-fit shape)
+  long : rows shape ≤ length stored
+  long = rw (length-rows layout block image) (rows-fit shape)
 
   -- a block that is left as it was leaves the image as it was
   unaltered : blockRefusal (length image) layout block ≡ 0 → mendedBlock shape found ≡ found → visitAfter image layout block ≡ image
@@ -55,25 +62,34 @@ module _ (image : List ℕ) (layout : Layout) (block : ℕ) where
 
   pub visit-mends : Fitting image → blockRefusal (length image) layout block ≡ 0
       → Visiting image layout block (visitAnswer image layout block) (visitAfter image layout block)
+  unfolding gathered
   visit-mends fits e =
-      let small = gathered-words layout block image fits in
+      let small = rows-words layout block image fits in
+      let left : storedRows layout block (visitAfter image layout block) ≡ complemented (mendedBlock shape found) =
+      sym (complemented-twice (storedRows layout block (visitAfter image layout block))) ∙ ap complemented (visit-held image layout block e) in
       rw (says e)
       (record {
-        mends = rw (visit-held image layout block e) (mends shape found small long);
-        lost-unaltered = λ l. unaltered e (lost-left (lost-same shape found small long l));
-        clean-unaltered = λ c. let z = clean-numbers shape found small long c in unaltered e (clean-same shape found small long (z .0) (z .1));
+        mends = rw left (mends shape stored small long);
+        lost-unaltered = λ l. unaltered e (lost-left (lost-same shape stored small long l));
+        clean-unaltered = λ c. let z = clean-numbers shape stored small long c in unaltered e (clean-same shape stored small long (z .0) (z .1));
         untouched = visit-untouched image layout block;
         words = visit-words image layout block fits;
       })
 
   pub write-stores : (list : List ℕ) → Fitting list → dataRefusal (length image) layout block (length list) ≡ 0
       → Writing image layout block list (writeAfter image layout block list)
+  unfolding gathered
   write-stores list fits e =
       let exact = data-accepted (length image) layout block (length list) e .1 in
+      let after = storedRows layout block (writeAfter image layout block list) in
+      let held = write-held image layout block list e in
+      let whole : rows shape ≤ length after = rw (length-rows layout block (writeAfter image layout block list)) (rows-fit shape) in
       record {
-        valid = rw (write-held image layout block list e) (valid-is shape list);
-        holds = rw (write-held image layout block list e) (holds-data shape list fits exact);
-        only = rw (write-held image layout block list e) (λ other small v d. valid-only shape list fits other small v exact d);
+        valid = rw held (valid-is shape list);
+        holds = sym (data-stored shape after) ∙ rw held (holds-data shape list fits exact);
+        only = λ other tall small v d.
+            same-stored shape other after tall whole
+            (rw held (valid-only shape list fits (complemented other) (complemented-fits other small) v exact (data-stored shape other ∙ d)));
         untouched = write-untouched image layout block list;
       }
 
@@ -81,15 +97,16 @@ module _ (image : List ℕ) (layout : Layout) (block : ℕ) where
       → Reading layout block buffer (readAnswer image layout block buffer) (readBuffer image layout block buffer)
       (visitAnswer image layout block)
       (visitAfter image layout block)
-  unfolding readAnswer readBuffer mendedData
+  unfolding readAnswer readBuffer mendedData gathered
   read-mends fits buffer e =
-      let small = gathered-words layout block image fits in
+      let small = rows-words layout block image fits in
       let v = data-accepted (length image) layout block (length buffer) e .0 in
+      let after = storedRows layout block (visitAfter image layout block) in
       rw (e, says v)
       (record {
         same = refl;
-        mended = λ ne. rw (kept-numbers shape found small long ne, visit-held image layout block v);
-        stays = λ l. refused-kept (lanesLost shape found) (dataOf shape (mendedBlock shape found)) buffer (lost-same shape found small long l);
+        mended = λ ne. rw (kept-numbers shape stored small long ne) (ap (dataOf shape) (sym (visit-held image layout block v)) ∙ data-stored shape after);
+        stays = λ l. refused-kept (lanesLost shape found) (dataOf shape (mendedBlock shape found)) buffer (lost-same shape stored small long l);
       })
 
 -- what a promise allows is what the call answers and leaves; a call that answers number 0 was not refused

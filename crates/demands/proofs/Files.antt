@@ -13,7 +13,7 @@ use Rattle.layout.specs.declared.Layout.{Layout}
 use Rattle.layout.specs.Layout.{layoutOf}
 use Rattle.file.specs.declared.Header.{Header}
 use Rattle.file.specs.declared.Written.{Written}
-use Rattle.file.specs.Bytes.{fileOf, fileInto, layoutIn, wordsIn}
+use Rattle.file.specs.Bytes.{fileOf, fileInto, layoutIn, imageIn}
 use Rattle.file.specs.Refusal.{fileRefusal, readRefusal, writeRefusal}
 use Rattle.file.specs.Reason.{fileRules, readRules, writeRules}
 use Rattle.file.specs.Header.{headerOf, HeaderRead, ReadsFile}
@@ -44,7 +44,7 @@ module _ (bytes : List ℕ) where
   refused-line zero ne e = absurd (ne refl)
   refused-line (suc number) ne e = rw e (append-nil (refusalLine (suc number)))
 
-  pub accepted-lines : fileRefusal bytes ≡ 0 → reportOf bytes ≡ imageReport (wordsIn bytes) (layoutIn bytes)
+  pub accepted-lines : fileRefusal bytes ≡ 0 → reportOf bytes ≡ imageReport (imageIn bytes) (layoutIn bytes)
   unfolding reportOf headerOf
   accepted-lines e = rw e
 

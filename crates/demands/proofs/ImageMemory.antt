@@ -6,9 +6,11 @@ use mathlib.Core.List.{List}
 use mathlib.Core.Logic.{by-cases}
 use native.Mathlib.Decide.{ℕ-discrete}
 use native.Mathlib.Omega.{arith}
-use lib.ListN.{length, replicate}
+use lib.ListN.{length, getD, replicate}
 use Rattle.lane.specs.Bit.{bit, _⊕_}
 use Rattle.lane.specs.Lane.{diff, apart}
+use Rattle.lane.proofs.Bits.{bit-xor}
+use Rattle.stored.specs.Stored.{mask}
 use Rattle.lane.proofs.Distance.{empty}
 use Rattle.lane.proofs.Linear.{count-same}
 use Rattle.shape.specs.declared.Shape.{Shape}
@@ -30,7 +32,7 @@ use Rattle.store.proofs.After.{visit-untouched, visit-words, visit-held}
 use Rattle.store.proofs.Image.{length-gathered, gathered-row, gathered-words, length-placed, placed-words, placed-untouched, gathered-placed}
 use Rattle.rota.specs.Memory.{Memory}
 use Rattle.demands.specs.Steps.{flipped}
-use Rattle.demands.proofs.Index.{blockAt, rowAt, only-at}
+use Rattle.demands.proofs.Index.{blockAt, rowsPast, only-at}
 use Rattle.demands.proofs.SameBlocks.{same-apart, same-data}
 use Rattle.store.proofs.FreshBlocks.{length-fresh, fresh-words, fresh-block}
 use Rattle.demands.proofs.Flips.{length-flipped, flipped-words, other-bit, count-single}
@@ -103,12 +105,15 @@ module _ (len : ℕ) (layout : Layout) (fits : imageRefusal len layout ≡ 0) wh
 
   module _ (at nth : ℕ) (image : List ℕ) (u : ℕ × ℕ) where
     -- a row of the lane is as it was, unless the flip is in that lane and that row
-    row-kept : (k : ℕ) → k < rows shape → (u .0 ≡ blockAt layout at → k ≡ rowAt layout at → u .1 ≡ nth → ⊥)
+    row-kept : (k : ℕ) → k < rows shape → (u .0 ≡ blockAt layout at → k ≡ rowsPast layout at → u .1 ≡ nth → ⊥)
         → lane (u .1) (gathered layout (u .0) (flipped at nth image)) (suc k) ≡ lane (u .1) (gathered layout (u .0) image) (suc k)
     row-kept k h ne =
         ap (bit (u .1)) (gathered-row layout (u .0) (flipped at nth image) k h)
-        ∙ other-bit at nth image (index layout (u .0) (suc k)) (u .1)
-        (λ e f. let q = only-at layout first at (u .0) k h e in ne (q .0) (q .1) f)
+        ∙ bit-xor (u .1) (getD (flipped at nth image) (index layout (u .0) (suc k)) 0) (mask (suc k))
+        ∙ ap (λ (b : Bool). b ⊕ bit (u .1) (mask (suc k)))
+        (other-bit at nth image (index layout (u .0) (suc k)) (u .1)
+        (λ e f. let q = only-at layout first at (u .0) k h e in ne (q .0) (q .1) f))
+        ∙ sym (bit-xor (u .1) (getD image (index layout (u .0) (suc k)) 0) (mask (suc k)))
         ∙ sym (ap (bit (u .1)) (gathered-row layout (u .0) image k h))
 
     pub flip-elsewhere : ((blockAt layout at, nth) ≡ u → ⊥) → (list : List ℕ) (k : ℕ) → OffBy k image u list → OffBy k (flipped at nth image) u list
@@ -125,7 +130,7 @@ module _ (len : ℕ) (layout : Layout) (fits : imageRefusal len layout ≡ 0) wh
 
     pub flip-there : (list : List ℕ) → OffBy 0 image u list → OffBy 1 (flipped at nth image) u list
     flip-there list off l =
-        count-single (rows shape) (diff (lane (u .1) (gathered layout (u .0) (flipped at nth image))) (lane (u .1) (validBlock shape list))) (rowAt layout at)
+        count-single (rows shape) (diff (lane (u .1) (gathered layout (u .0) (flipped at nth image))) (lane (u .1) (validBlock shape list))) (rowsPast layout at)
         (λ j h ne.
         ap (λ (b : Bool). b ⊕ lane (u .1) (validBlock shape list) (suc j)) (row-kept j h (λ e r f. ne r))
         ∙ empty (rows shape) (diff (lane (u .1) (gathered layout (u .0) image)) (lane (u .1) (validBlock shape list))) (omega (arith, off l)) j h)
@@ -168,7 +173,7 @@ module _ (len : ℕ) (layout : Layout) (fits : imageRefusal len layout ≡ 0) wh
         Off = OffBy;
         off-more = λ image u list ok off l. omega (arith, off l);
         fresh-zeros = λ u l.
-            as-meant (freshImage layout) u (replicate (words shape) 0) (fresh-block layout (u .0));
+            as-meant (freshImage layout) u (replicate (words shape) 0) (fresh-block layout (image-layout layout len fits) (u .0) l);
         visit-here = λ block image list ok l off u e.
             as-meant (visitAfter image layout block) u list
             (rw (e, visit-held image layout block (rw (ok .size) (block-accepted layout len block fits l))) (mended-rows block image list ok off));

@@ -3,15 +3,15 @@
 use Prim.Native.Nat.{ℕ, zero, suc, _*_}
 use mathlib.Core.Path.{_≡_, refl, sym, ap, _∙_}
 use mathlib.Core.List.{List, [], _∷_, _++_, append-assoc}
-use lib.ListN.{length, length-replicate}
+use lib.ListN.{length}
 use Rattle.ground.specs.Choice.{ifZero}
 use Rattle.ground.proofs.Choices.{refused-kept}
 use Rattle.layout.specs.declared.Layout.{Layout}
-use Rattle.layout.specs.Layout.{rowsOf, blocks}
 use Rattle.layout.specs.Refusal.{layoutRefusal, imageRefusal}
 use Rattle.layout.proofs.Ladder.{image-exact}
 use Rattle.store.specs.Fresh.{freshImage, freshAfter}
 use Rattle.store.proofs.After.{visit-untouched, write-untouched}
+use Rattle.store.proofs.FreshBlocks.{length-fresh}
 use Rattle.rota.specs.declared.Due.{Due}
 use Rattle.rota.specs.declared.Due.the-variants.{Refused as NoneDue, One as OneDue, Two as TwoDue}
 use Rattle.patrol.specs.declared.Record.{Record}
@@ -41,11 +41,11 @@ turn-size r image = go (imageRefusal (length image) (r .layout))
 
 -- a format, refused or not
 format-size : (image : List ℕ) (layout : Layout) → length (freshAfter image layout) ≡ length image
-unfolding freshAfter freshImage
+unfolding freshAfter
 format-size image layout = go (imageRefusal (length image) layout) refl
   where
     go : (number : ℕ) → imageRefusal (length image) layout ≡ number → length (ifZero number (freshImage layout) image) ≡ length image
-    go zero e = length-replicate (rowsOf layout * blocks layout) 0 ∙ sym (image-exact layout (length image) e)
+    go zero e = length-fresh layout ∙ sym (image-exact layout (length image) e)
     go (suc number) e = refl
 
 pub step-size : (step : Step) (state : State) → length (stepAfter step state .image) ≡ length (state .image)

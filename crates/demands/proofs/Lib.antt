@@ -4,6 +4,7 @@ pub mod OneBlock
 pub mod Numbers
 pub mod Turning
 pub mod Demand2
+pub mod StoredForm
 pub mod OneResult
 pub mod Examples
 pub mod Promised
@@ -25,4 +26,5 @@ pub mod Tests
 pub mod Needed
 pub mod Shown
 pub mod Files
+pub mod OldFiles
 pub mod RoundTrip

@@ -22,7 +22,8 @@ use Rattle.layout.specs.Layout.{layoutOf, shapeNumbered, blocks}
 use Rattle.layout.specs.Refusal.{layoutRefusal, imageRefusal, blockRefusal}
 use Rattle.store.specs.Answer.{answerNumber, answerSaid}
 use Rattle.store.specs.Fresh.{freshImage, freshAfter}
-use Rattle.store.specs.Image.{gathered, placed}
+use Rattle.stored.specs.Stored.{complemented}
+use Rattle.store.specs.Image.{storedRows, withRows, gathered, placed}
 use Rattle.store.specs.Read.{readAnswer, readBuffer, mendedData}
 use Rattle.store.specs.Refusal.{dataRefusal}
 use Rattle.store.specs.Visit.{visitAnswer, visitAfter}
@@ -93,9 +94,13 @@ far = flip 19 3 ∷ turn ∷ turn ∷ flip 24 3 ∷ []
 abbrev pub strayWrite : List Step
 strayWrite = write other 0 allOnes ∷ []
 
+-- data for block 0 that make a valid block of the other layout too, but for lane 0
+abbrev pub twofold : List ℕ
+twofold = 0 ∷ 0xFFFFFFFF ∷ replicate 8 0 ++ 0xFFFFFFFE ∷ []
+
 -- one flip in each block, with a visit between them
 abbrev pub visited : Layout → List Step
-visited layout = write ours 0 oneFirst ∷ flip 4 0 ∷ visit layout 0 ∷ flip 20 0 ∷ []
+visited layout = write ours 0 twofold ∷ flip 4 0 ∷ visit layout 0 ∷ flip 20 0 ∷ []
 
 -- a data word of 33 bits
 abbrev pub longWord : List Step
@@ -111,13 +116,13 @@ pub record Needed : Type 0 where
   pub too-few-else : KeepsRead (others spacing) 1 near
   pub enough : says 1 far ≡ 2
   pub enough-meets : KeepsRead every 1 far
-  -- a write with the other layout is accepted and changes both blocks: block 1, to which nothing was written, reads as clean
-  pub other-write : says 1 strayWrite ≡ 1
+  -- a write with the other layout is accepted and changes both blocks: block 1, to which nothing was written, reads as mended, to ones
+  pub other-write : says 1 strayWrite ≡ 2
   pub other-write-gives : gives 1 strayWrite ≡ 0xFFFFFFFF
   pub other-write-wrote : wrote 1 strayWrite ≡ 0
   pub other-write-else : KeepsRead (others layouts) 1 strayWrite
   -- a visit with that layout, after one flip in block 0, damages block 1, and one flip there is then too much
-  pub other-visit-changes : getD (small (write ours 0 oneFirst ∷ flip 4 0 ∷ visit other 0 ∷ []) .image) 30 0 ≡ 1
+  pub other-visit-changes : getD (small (write ours 0 twofold ∷ flip 4 0 ∷ visit other 0 ∷ []) .image) 18 0 ≡ 1
   pub other-visit : says 1 (visited other) ≡ 3
   pub other-visit-else : KeepsRead (others layouts) 1 (visited other)
   pub same-visit : says 1 (visited ours) ≡ 2
@@ -156,7 +161,7 @@ pub needed : Needed
 unfolding after flipped turns lastWritten formatted freshAfter freshImage turned turnAfter rotaTurned turnNumber unbroken sound zeros below noneTwice
     asked rotaAsked askNumber askRefusal place
     layoutRefusal imageRefusal blockRefusal dataRefusal shapeNumbered writeAnswer writeAfter readAnswer readBuffer mendedData visitAnswer visitAfter
-    gathered placed
+    complemented storedRows withRows gathered placed
     dataBlock validBlock dataOf lanesLost mendedLanes mendedBlock bitsChanged verdictOf stores number listOf total
     bit sum count decision named power? rowsWhere made every? fit?
 needed =

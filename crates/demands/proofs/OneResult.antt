@@ -20,7 +20,8 @@ use Rattle.block.specs.Sums.{Decides, MendsLanes, CopiesData}
 use Rattle.block.proofs.Verdicts.{said-told}
 use Rattle.layout.specs.declared.Layout.{Layout}
 use Rattle.layout.specs.declared.Site.{Site}
-use Rattle.layout.specs.Layout.{CountsBlocks}
+use Rattle.layout.specs.Layout.{CountsBlocks, CountsGroupWords}
+use Rattle.stored.specs.Stored.{complemented, ComplementsBlock, ComplementsImage}
 use Rattle.layout.specs.Refusal.{Checks, ChecksImage}
 use Rattle.layout.specs.Site.{Locates}
 use Rattle.layout.proofs.Sites.{sites-told}
@@ -60,6 +61,14 @@ one-rows shape p q = same p q
 pub one-words : (shape : Shape) {a b : ℕ} → CountsWords shape a → CountsWords shape b → a ≡ b
 one-words shape p q = same p q
 
+-- ---- stored
+
+pub one-complement-block : (block : List ℕ) {a b : List ℕ} → ComplementsBlock block a → ComplementsBlock block b → a ≡ b
+one-complement-block block p q = same p q
+
+pub one-complement-image : (image : List ℕ) (layout : Layout) {a b : List ℕ} → ComplementsImage image layout a → ComplementsImage image layout b → a ≡ b
+one-complement-image image layout p q = same p q
+
 -- ---- sums
 
 pub one-look : (shape : Shape) (list : List ℕ) (at s : ℕ) (lent : List ℕ) {m n : ℕ} {a b : List ℕ} → Looks shape list at s lent m a
@@ -68,7 +77,7 @@ one-look shape list at s lent p q =
     ⊎-elim
     (λ h.
     let found = same (p .there h .0) (q .there h .0) in
-    (found, p .there h .1 ∙ ap (λ (k : ℕ). ifZero k lent (sumsOf shape (lying shape list at s))) found ∙ sym (q .there h .1)))
+    (found, p .there h .1 ∙ ap (λ (k : ℕ). ifZero k lent (sumsOf shape (complemented (lying shape list at s)))) found ∙ sym (q .there h .1)))
     (λ h.
     let no : at + before shape * s < length list → ⊥ = λ l. omega arith in
     (same (p .missing no .0) (q .missing no .0), same (p .missing no .1) (q .missing no .1)))
@@ -100,6 +109,9 @@ pub one-data-of : (shape : Shape) (block buffer : List ℕ) {a b : List ℕ} →
 one-data-of shape block buffer p q = one-data-into shape block 0 1 buffer p q
 
 -- ---- layout
+
+pub one-group-words : (layout : Layout) {a b : ℕ} → CountsGroupWords layout a → CountsGroupWords layout b → a ≡ b
+one-group-words layout p q = same p q
 
 pub one-blocks : (layout : Layout) {a b : ℕ} → CountsBlocks layout a → CountsBlocks layout b → a ≡ b
 one-blocks layout p q = same p q

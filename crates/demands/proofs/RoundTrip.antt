@@ -15,32 +15,34 @@ use Rattle.layout.specs.Refusal.{lengthRung, layoutRefusal, imageRefusal}
 use Rattle.layout.specs.Reason.{imageRules}
 use Rattle.layout.proofs.Ladder.{image-exact, image-first}
 use Rattle.layout.proofs.Shapes.{shape-one, shape-two}
-use Rattle.file.specs.Bytes.{bytesOf, headOf, fileOf, fileLength, layoutIn, wordsIn}
+use Rattle.stored.specs.Stored.{complementedImage}
+use Rattle.stored.proofs.Forms.{length-image}
+use Rattle.file.specs.declared.Written.{Written}
+use Rattle.file.specs.Bytes.{bytesOf, headOf, fileOf, fileLength, layoutIn, wordCount, wordsIn, imageIn}
+use Rattle.file.specs.Written.{writtenBytes, WritesFile}
 use Rattle.file.specs.Refusal.{longRung, frameRefusal, bodyRefusal, fileRefusal, readRefusal, writeRefusal}
 use Rattle.file.specs.Reason.{tooLong, noRoom}
 use Rattle.file.proofs.Ladder.{accepted, header-image}
-use Rattle.file.proofs.Layouts.{words-fill, words-layout}
-use Rattle.file.proofs.RoundTrip.{length-file, layout-back, words-back, refusal-back, length-words, file-back}
+use Rattle.file.proofs.Layouts.{length-words, words-layout}
+use Rattle.file.proofs.RoundTrip.{length-file, layout-back, image-back, refusal-back, file-renewed, file-back}
 use Rattle.text.specs.Page.{endToEnd}
 use Rattle.report.specs.Report.{imageReport, reportOf}
 use Rattle.report.proofs.OneResult.{one-report}
-use Rattle.demands.specs.RoundTrip.{Read, inspecting, whole, Wrote, Edge, Most, sampleImage, sampleFile, wordedImage, Headed}
-use Rattle.demands.specs.RoundTrip.{ReadsBack, WritesAgain, PrintsSame, FileRoundTrip}
+use Rattle.demands.specs.RoundTrip.{Read, whole, Wrote, Edge, Most, sampleImage, wordedImage, Headed, renewed}
+use Rattle.demands.specs.RoundTrip.{ReadsBack, WritesAgain, WritesNew, PrintsSame, FileRoundTrip}
+use Rattle.demands.specs.Examples.{oldSample, newSample}
 use Rattle.demands.proofs.Files.{accepted-lines, written-file, file-writes}
 
 -- ---- what reading gives is what stands in the bytes
 
--- a file that is accepted, its layout and its words
+-- a file that is accepted, its layout and its image
 record Stands (bytes : List ℕ) (layout : Layout) (image : List ℕ) : Type 0 where
   passed : fileRefusal bytes ≡ 0
   named : layout ≡ layoutIn bytes
-  words : image ≡ wordsIn bytes
+  words : image ≡ imageIn bytes
 
 stands : (bytes : List ℕ) (layout : Layout) (image : List ℕ) → Read bytes layout image → Stands bytes layout image
 unfolding readRefusal
-stands bytes _ _ (inspecting header count lent image h z counted size r) =
-    let passed : fileRefusal bytes ≡ 0 = sym (h .number) ∙ z in
-    record { passed = passed; named = h .layout ∙ rw passed; words = r ∙ words-fill bytes lent (size ∙ counted) }
 stands bytes _ _ (whole header lent kept image r z) =
     let none : readRefusal bytes (length lent) ≡ 0 = sym (r .answers .number) ∙ z in
     record { passed = then-zero (fileRefusal bytes) _ none .0; named = r .answers .layout ∙ rw none; words = r .leaves ∙ rw none }
@@ -75,33 +77,49 @@ back image layout file w =
       whole = λ header lent kept after e r. r .answers .number ∙ rw (f .file-passed) (ap (lengthRung (length lent)) (layout-back layout image) ∙ rw e fits);
       same = λ named words r.
           let s = stands (fileOf layout image) named words r in
-          (s .named ∙ layout-back layout image, s .words ∙ words-back layout image);
+          (s .named ∙ layout-back layout image, s .words ∙ image-back layout image);
     })
 
 -- ---- the file of what was read
 
-write-passed : (bytes : List ℕ) (room : ℕ) → fileRefusal bytes ≡ 0 → length bytes ≤ room → writeRefusal (length (wordsIn bytes)) (layoutIn bytes) room ≡ 0
+write-passed : (bytes image : List ℕ) (room : ℕ) → fileRefusal bytes ≡ 0 → length image ≡ wordCount (length bytes) → length bytes ≤ room
+    → writeRefusal (length image) (layoutIn bytes) room ≡ 0
 unfolding writeRefusal
-write-passed bytes room e l =
+write-passed bytes image room e many l =
     let ok = accepted bytes e in
-    let size : fileLength (length (wordsIn bytes)) ≡ length bytes = omega (arith, length-words bytes, ok .body, ok .frame .least) in
-    let image : imageRefusal (length (wordsIn bytes)) (layoutIn bytes) ≡ 0 =
-    rw (length-words bytes) (words-layout bytes (layoutIn bytes) (sym (header-image bytes e))) in
-    rw (image, size, le-ltb 32768 (length bytes) (ok .frame .most), le-ltb room (length bytes) l)
+    let size : fileLength (length image) ≡ length bytes = omega (arith, many, ok .body, ok .frame .least) in
+    let fits : imageRefusal (length image) (layoutIn bytes) ≡ 0 = rw many (words-layout bytes (layoutIn bytes) (sym (header-image bytes e))) in
+    rw (fits, size, le-ltb 32768 (length bytes) (ok .frame .most), le-ltb room (length bytes) l)
+
+-- what is written of what was read: the file of that image, and as long as the file that was read
+module _ (bytes : List ℕ) (image buffer : List ℕ) (e : fileRefusal bytes ≡ 0) (many : length image ≡ wordCount (length bytes))
+    (l : length bytes ≤ length buffer)
+    {answer : Written} {kept after : List ℕ} (w : WritesFile image (layoutIn bytes) buffer answer kept after) where
+  none : writeRefusal (length image) (layoutIn bytes) (length buffer) ≡ 0
+  none = write-passed bytes image (length buffer) e many l
+
+  count-again : writtenBytes answer ≡ length bytes
+  count-again =
+      written-file image (layoutIn bytes) buffer w none .0 ∙ length-file (layoutIn bytes) image
+      ∙ omega (arith, many, accepted bytes e .body, accepted bytes e .frame .least)
+
+  file-again : take (length bytes) after ≡ fileOf (layoutIn bytes) image
+  file-again = rw (← count-again) (written-file image (layoutIn bytes) buffer w none .1)
+
+  past-again : drop (length bytes) after ≡ drop (length bytes) buffer
+  past-again = rw (← count-again) (written-file image (layoutIn bytes) buffer w none .2)
 
 again : WritesAgain
-again bytes layout image fits r buffer answer kept after l w =
+again bytes layout image fits version r buffer answer kept after l w =
     let s = stands bytes layout image r in
-    let wrote = rw (s .named, s .words) at w in
-    let none = write-passed bytes (length buffer) (s .passed) l in
-    let same = file-back bytes fits (s .passed) in
-    let file = written-file (wordsIn bytes) (layoutIn bytes) buffer wrote none in
-    let count = file .0 ∙ ap length same in
+    let is : image ≡ wordsIn bytes = s .words ∙ rw version in
+    let many = ap length is ∙ length-words bytes in
+    let wrote = rw (s .named) at w in
     record {
-      accepted = wrote .number ∙ none;
-      count = count;
-      same = rw (← count) (file .1 ∙ same);
-      past = rw (← count) (file .2);
+      accepted = wrote .number ∙ none bytes image buffer (s .passed) many l wrote;
+      count = count-again bytes image buffer (s .passed) many l wrote;
+      same = file-again bytes image buffer (s .passed) many l wrote ∙ ap (fileOf (layoutIn bytes)) is ∙ file-back bytes fits (s .passed) version;
+      past = past-again bytes image buffer (s .passed) many l wrote;
     }
 
 -- ---- what is printed
@@ -113,7 +131,7 @@ printed : PrintsSame
 printed image layout file w =
     let f = filed image layout file w in
     let own : reportOf file ≡ imageReport image layout = report-as file layout image (rw (f .file-of)
-    (record { passed = f .file-passed; named = sym (layout-back layout image); words = sym (words-back layout image) })) in
+    (record { passed = f .file-passed; named = sym (layout-back layout image); words = sym (image-back layout image) })) in
     record {
       report = λ out end left i. i .whole ∙ ap endToEnd own;
       same = λ bytes out end left end' left' r i j.
@@ -123,11 +141,47 @@ printed image layout file w =
           j;
     }
 
+-- ---- version 1
+
+new : WritesNew
+new bytes layout image fits version r buffer answer kept after l w =
+    let s = stands bytes layout image r in
+    let code = complementedImage (layoutIn bytes) (wordsIn bytes) in
+    let is : image ≡ code = s .words ∙ rw version in
+    let many : length image ≡ wordCount (length bytes) = ap length is ∙ length-image (layoutIn bytes) (wordsIn bytes) ∙ length-words bytes in
+    let wrote = rw (s .named) at w in
+    let count = count-again bytes image buffer (s .passed) many l wrote in
+    let passed = wrote .number ∙ none bytes image buffer (s .passed) many l wrote in
+    let file : take (length bytes) after ≡ renewed bytes =
+    file-again bytes image buffer (s .passed) many l wrote ∙ file-renewed bytes fits (s .passed) image many
+    ∙ ap (λ (words : List ℕ). 2 ∷ take 8 (drop 1 bytes) ++ bytesOf words) is in
+    let filed : Wrote image layout (renewed bytes) =
+    record {
+      buffer = buffer;
+      answer = answer;
+      kept = kept;
+      after = after;
+      promised = w;
+      accepted = passed;
+      file-is = sym file ∙ ap (λ (n : ℕ). take n after) (sym count);
+    } in
+    record {
+      accepted = passed;
+      count = count;
+      file = file;
+      past = past-again bytes image buffer (s .passed) many l wrote;
+      printed = λ out end left end' left' i j. printed image layout (renewed bytes) filed .same bytes out end left end' left' r i j;
+    }
+
 -- ---- the specification's own file
 
-sample : (file : List ℕ) → Wrote sampleImage (layoutOf 1 1 1) file → file ≡ sampleFile
+sample : (file : List ℕ) → Wrote sampleImage (layoutOf 1 1 1) file → file ≡ newSample
 unfolding fileOf bytesOf
 sample file w = filed sampleImage (layoutOf 1 1 1) file w .file-of
+
+old-sample : (layout : Layout) (image : List ℕ) → Read oldSample layout image → (layout ≡ layoutOf 1 1 1) × (image ≡ sampleImage)
+unfolding wordsIn complementedImage listOf shapeNumbered
+old-sample layout image r = let s = stands oldSample layout image r in (s .named, s .words)
 
 worded : (file : List ℕ) → Wrote wordedImage (layoutOf 1 1 1) file → take 4 (drop 9 file) ≡ 1 ∷ 2 ∷ 3 ∷ 4 ∷ []
 unfolding fileOf bytesOf
@@ -176,8 +230,10 @@ file-round-trip =
     record {
       back = back;
       again = again;
+      new = new;
       printed = printed;
       sample = sample;
+      old-sample = old-sample;
       worded = worded;
       headed-one = headed 4800 (layoutOf 1 1 300);
       headed-two = headed 1080 (layoutOf 2 3 5);
@@ -199,7 +255,7 @@ pub fitting-needed : FittingNeeded
 unfolding fileRefusal frameRefusal bodyRefusal layoutRefusal shapeNumbered fileOf bytesOf wordsIn listOf
 fitting-needed =
     record {
-      bytes = take 72 sampleFile ++ 256 ∷ [];
+      bytes = take 72 newSample ++ 256 ∷ [];
       passed = refl;
       other = λ e. let z : _≡_ {A = ℕ} 1 0 = ap (λ (l : List ℕ). getD l 71 0) e in omega arith;
     }

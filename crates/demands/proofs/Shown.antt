@@ -10,11 +10,13 @@ use Rattle.block.proofs.ByWords.{fit?}
 use Rattle.layout.specs.Layout.{layoutOf, shapeNumbered, wordsOf, blocks}
 use Rattle.layout.specs.Refusal.{layoutRefusal, imageRefusal, blockRefusal}
 use Rattle.store.specs.Fresh.{freshImage, freshAfter}
-use Rattle.store.specs.Image.{gathered, placed}
+use Rattle.stored.specs.Stored.{complemented}
+use Rattle.store.specs.Image.{storedRows, withRows, gathered, placed}
 use Rattle.store.specs.Read.{readAnswer, readBuffer}
 use Rattle.store.specs.Refusal.{dataRefusal}
 use Rattle.store.specs.Visit.{visitAnswer, visitAfter}
 use Rattle.store.specs.Write.{writeAnswer, writeAfter}
+use Rattle.ground.specs.Lists.{listOf}
 use Rattle.ground.specs.Stores.{stores}
 use Rattle.store.proofs.Promises.{reads}
 use Rattle.rota.specs.Numbers.{placeNumber, placeGiven}
@@ -96,7 +98,7 @@ pub record Computed : Type 0 where
 pub computed : Computed
 unfolding after flipped turns numbers lastWritten formatted freshAfter freshImage turned turnAfter rotaTurned turnNumber unbroken sound zeros below
     noneTwice asked rotaAsked askNumber askRefusal place layoutRefusal imageRefusal blockRefusal dataRefusal shapeNumbered
-    writeAnswer writeAfter readAnswer visitAnswer visitAfter gathered placed stores every? fit?
+    writeAnswer writeAfter readAnswer visitAnswer visitAfter complemented storedRows withRows gathered placed stores listOf every? fit?
 computed =
     record {
       hypotheses = meets refl;

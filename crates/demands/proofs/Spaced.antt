@@ -12,7 +12,7 @@ use Rattle.rota.specs.Steps.{other}
 use Rattle.rota.specs.Touches.{flip as flips}
 use Rattle.demands.specs.Steps.{Step, flip, fresh, stepAfter, after, turns}
 use Rattle.demands.specs.Demand3.{RowOf, FlipsSpaced}
-use Rattle.demands.proofs.Index.{blockAt, rowAt, row-below, index-at}
+use Rattle.demands.proofs.Index.{blockAt, rowsPast, row-below, index-at}
 use Rattle.demands.proofs.Parts.{parts-turns, whole-step}
 use Rattle.demands.proofs.Simulated.{memory}
 use Rattle.demands.proofs.Order.{partsOf}
@@ -21,7 +21,7 @@ module _ (image : List ℕ) (layout : Layout) (fits : imageRefusal (length image
   row-of : (at : ℕ) → RowOf layout (blockAt layout at) at
   row-of at =
       let first = geometry layout (image-layout layout (length image) fits) .s-first in
-      (suc (rowAt layout at), omega arith, row-below layout at, sym (index-at layout first at))
+      (suc (rowsPast layout at), omega arith, row-below layout at, sym (index-at layout first at))
 
   pub parts-spaced : (steps : List Step) → FlipsSpaced image layout steps → Spaced (memory (length image) layout fits) (partsOf image layout steps)
   unfolding turns

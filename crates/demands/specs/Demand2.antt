@@ -1,25 +1,28 @@
 -- Demand 2: a visit leaves the one valid block that differs in at most one bit a lane, and says lost exactly if there is none, with the
 -- lanes lost with even parity and those lost with an odd sum beyond the rows;
 -- a write stores the one valid block for its data; a read answers as a visit would, gives the mended data and leaves the image;
--- a turn passes on what its visits answer. Assumes nothing.
+-- a turn passes on what its visits answer. Blocks are said here as they are stored, and are valid if the code's are: rows 1 and 2 complemented.
+-- Assumes nothing.
 use Prim.Native.Nat.{ℕ, _+_, _≤_, _<_}
 use mathlib.Core.Bool.{Bool, true}
 use mathlib.Core.Path.{_≡_}
 use mathlib.Core.List.{List, [], _∷_}
 use mathlib.Core.Logic.{_⊎_, _↔_}
+use lib.ListN.{length}
 use Rattle.ground.specs.Totals.{total}
 use Rattle.lane.specs.Bit.{pick}
 use Rattle.lane.specs.Decision.{Kind, even, beyond, LostAs, NoneNear}
 use Rattle.shape.specs.declared.Shape.{Shape}
 use Rattle.shape.specs.declared.Shape.the-variants.{One}
-use Rattle.shape.specs.Shape.{before}
+use Rattle.shape.specs.Shape.{before, rows}
+use Rattle.stored.specs.Stored.{complemented}
 use Rattle.sums.specs.Words.{lane}
 use Rattle.block.specs.Block.{ValidBlock, dataOf, bitsChanged, Near, SameRows, Fitting}
 use Rattle.layout.specs.declared.Layout.{Layout}
-use Rattle.layout.specs.Layout.{shapeOf}
+use Rattle.layout.specs.Layout.{shapeOf, rowsOf}
 use Rattle.store.specs.declared.Answer.{Answer}
 use Rattle.store.specs.Answer.{answerNumber, answerSaid}
-use Rattle.store.specs.Image.{gathered, Untouched}
+use Rattle.store.specs.Image.{storedRows, Untouched}
 use Rattle.store.specs.Write.{Writes}
 use Rattle.store.specs.Read.{Reads}
 use Rattle.store.specs.Visit.{Visits}
@@ -29,10 +32,15 @@ use Rattle.patrol.specs.declared.Turned.{Turned}
 use Rattle.patrol.specs.Numbers.{unseen, reportNumber, reportFirst, reportSecond}
 use Rattle.patrol.specs.Turn.{Turns}
 
+-- a stored block is valid
+abbrev pub ValidStored : Shape → List ℕ → Type 0
+ValidStored shape stored = ValidBlock shape (complemented stored)
+
 -- what a found block may have been meant to be: a valid block that differs from it in at most one bit a lane
 pub record Meant (shape : Shape) (found meant : List ℕ) : Type 0 where
+  pub whole : rows shape ≤ length meant
   pub words : Fitting meant
-  pub valid : ValidBlock shape meant
+  pub valid : ValidStored shape meant
   pub near : Near shape found meant
 
 -- the verdicts are numbered 1 clean, 2 mended, 3 lost
@@ -47,11 +55,11 @@ SaysLost answer = answerSaid answer .verdict ≡ 3
 
 -- a lane of a block is lost: no valid lane is within one row of it
 abbrev pub LaneLost : Shape → List ℕ → ℕ → Type 0
-LaneLost shape found i = NoneNear (before shape) (lane i found)
+LaneLost shape found i = NoneNear (before shape) (lane i (complemented found))
 
 -- it is of a kind: even with a sum that is not 0, or odd with a sum of rows or more
 abbrev pub LaneLostAs : Kind → Shape → List ℕ → ℕ → Type 0
-LaneLostAs kind shape found i = LostAs kind (before shape) (lane i found)
+LaneLostAs kind shape found i = LostAs kind (before shape) (lane i (complemented found))
 
 -- so many of the 32 lanes are such
 pub record CountsLanes (count : ℕ) (Such : ℕ → Type 0) : Type 0 where
@@ -80,7 +88,7 @@ pub record Mends (shape : Shape) (found left : List ℕ) (answer : Answer) : Typ
   pub range : (SaysClean answer → ⊥) → (1 ≤ answerSaid answer .count + answerSaid answer .beyond)
       × (answerSaid answer .count + answerSaid answer .beyond ≤ 32)
   -- clean exactly if the block was valid, and the count is then 0
-  pub clean : SaysClean answer ↔ ValidBlock shape found
+  pub clean : SaysClean answer ↔ ValidStored shape found
   pub clean-count : SaysClean answer → answerSaid answer .count ≡ 0
   -- mended where it is neither
   pub else-mended : (SaysClean answer → ⊥) → (SaysLost answer → ⊥) → SaysMended answer
@@ -88,7 +96,7 @@ pub record Mends (shape : Shape) (found left : List ℕ) (answer : Answer) : Typ
 -- ---- the calls, accepted
 
 pub record Visiting (image : List ℕ) (layout : Layout) (block : ℕ) (answer : Answer) (after : List ℕ) : Type 0 where
-  pub mends : Mends (shapeOf layout) (gathered layout block image) (gathered layout block after) answer
+  pub mends : Mends (shapeOf layout) (storedRows layout block image) (storedRows layout block after) answer
   -- not one word is altered but where the block is mended, and no other block's words then
   pub lost-unaltered : SaysLost answer → after ≡ image
   pub clean-unaltered : SaysClean answer → after ≡ image
@@ -97,16 +105,16 @@ pub record Visiting (image : List ℕ) (layout : Layout) (block : ℕ) (answer :
   pub words : Fitting after
 
 pub record Writing (image : List ℕ) (layout : Layout) (block : ℕ) (list after : List ℕ) : Type 0 where
-  pub valid : ValidBlock (shapeOf layout) (gathered layout block after)
-  pub holds : dataOf (shapeOf layout) (gathered layout block after) ≡ list
-  pub only : (other : List ℕ) → Fitting other → ValidBlock (shapeOf layout) other → dataOf (shapeOf layout) other ≡ list
-      → SameRows (shapeOf layout) other (gathered layout block after)
+  pub valid : ValidStored (shapeOf layout) (storedRows layout block after)
+  pub holds : dataOf (shapeOf layout) (storedRows layout block after) ≡ list
+  pub only : (other : List ℕ) → rowsOf layout ≤ length other → Fitting other → ValidStored (shapeOf layout) other → dataOf (shapeOf layout) other ≡ list
+      → SameRows (shapeOf layout) other (storedRows layout block after)
   pub untouched : Untouched layout block image after
 
 -- with what a visit of the same block would answer and leave
 pub record Reading (layout : Layout) (block : ℕ) (buffer : List ℕ) (answer : Answer) (filled : List ℕ) (visited : Answer) (after : List ℕ) : Type 0 where
   pub same : answer ≡ visited
-  pub mended : (SaysLost answer → ⊥) → filled ≡ dataOf (shapeOf layout) (gathered layout block after)
+  pub mended : (SaysLost answer → ⊥) → filled ≡ dataOf (shapeOf layout) (storedRows layout block after)
   pub stays : SaysLost answer → filled ≡ buffer
 
 -- with what a visit of the block that is next would answer and leave

@@ -10,7 +10,7 @@ use Rattle.layout.specs.declared.Layout.{Layout}
 use Rattle.layout.specs.Layout.{layoutOf}
 use Rattle.file.specs.declared.Header.{Header}
 use Rattle.file.specs.declared.Written.{Written}
-use Rattle.file.specs.Bytes.{fileOf, layoutIn, wordsIn}
+use Rattle.file.specs.Bytes.{fileOf, layoutIn, imageIn}
 use Rattle.file.specs.Reason.{fileRules, readRules, writeRules}
 use Rattle.file.specs.Header.{headerNumber, headerLayout, HeaderRead, ReadsFile}
 use Rattle.file.specs.Written.{writtenNumber, writtenBytes, WritesFile}
@@ -24,10 +24,10 @@ pub record FileRefusing (bytes : List ℕ) (header : Header) : Type 1 where
   pub named : NoneOf (fileRules bytes) → headerLayout header ≡ layoutIn bytes
   pub bare : (headerNumber header ≡ 0 → ⊥) → headerLayout header ≡ layoutOf 0 0 0
 
--- reading a file into an image: likewise, with the image's length; the image holds the words where no rule applies, and else stays; the file stays
+-- reading a file into an image: likewise, with the image's length; the image is the one that the file holds where no rule applies, and else stays; the file stays
 pub record FileReading (bytes image : List ℕ) (header : Header) (kept after : List ℕ) : Type 1 where
   pub ruled : InOrder (readRules bytes (length image)) (headerNumber header)
-  pub read : NoneOf (readRules bytes (length image)) → (headerLayout header ≡ layoutIn bytes) × (after ≡ wordsIn bytes)
+  pub read : NoneOf (readRules bytes (length image)) → (headerLayout header ≡ layoutIn bytes) × (after ≡ imageIn bytes)
   pub unchanged : (headerNumber header ≡ 0 → ⊥) → (headerLayout header ≡ layoutOf 0 0 0) × (after ≡ image)
   pub keeps : kept ≡ bytes
 
@@ -44,7 +44,7 @@ pub record FileWriting (image : List ℕ) (layout : Layout) (buffer : List ℕ) 
 -- what is answered of a file: the whole report, that is the line of its refusal, or the report of its image
 pub record FileReported (bytes answered : List ℕ) : Type 1 where
   pub refused : (number : ℕ) → FirstGiven number (fileRules bytes) → answered ≡ refusalLine number
-  pub accepted : NoneOf (fileRules bytes) → answered ≡ endToEnd (imageReport (wordsIn bytes) (layoutIn bytes))
+  pub accepted : NoneOf (fileRules bytes) → answered ≡ endToEnd (imageReport (imageIn bytes) (layoutIn bytes))
   pub whole : answered ≡ endToEnd (reportOf bytes)
 
 -- the demand: of every outcome that the promises of read_header, read_file, write_file and inspect allow, whatever is lent

@@ -6,3 +6,5 @@ pub mod Promised
 pub mod Demand3
 pub mod Files
 pub mod RoundTrip
+pub mod StoredForm
+pub mod OldFiles

@@ -1,5 +1,6 @@
--- Through a file and back. What is read of the file that was written of an image is that image; the file that is written of what was read is
--- that file, byte for byte; so the inspecting program prints the same of both. All of it is said of what the promises allow. Assumes nothing.
+-- Through a file and back. What is read of the file that was written of an image is that image; the file that is written of what was read from one
+-- of version 2 is that file, byte for byte, and from one of version 1 the file of version 2 with the same header but the version; the inspecting
+-- program prints the same of both. All of it is said of what the promises allow. Assumes nothing.
 use Prim.Native.Nat.{ℕ, suc, _+_, _≤_, _<_}
 use mathlib.Core.Path.{_≡_}
 use mathlib.Core.List.{List, [], _∷_, _++_}
@@ -9,25 +10,18 @@ use Rattle.ground.specs.Rules.{NoneOf}
 use Rattle.layout.specs.declared.Layout.{Layout}
 use Rattle.layout.specs.Layout.{layoutOf, rowsOf, blocks}
 use Rattle.layout.specs.Reason.{imageRules}
+use Rattle.stored.specs.Stored.{complementedImage}
 use Rattle.file.specs.declared.Header.{Header}
 use Rattle.file.specs.declared.Written.{Written}
-use Rattle.file.specs.Bytes.{FittingBytes, CountsFileWords, ReadsWords}
+use Rattle.file.specs.Bytes.{FittingBytes, bytesOf, versionIn, layoutIn, wordsIn}
 use Rattle.file.specs.Header.{headerNumber, headerLayout, HeaderRead, ReadsFile}
 use Rattle.file.specs.Written.{writtenNumber, writtenBytes, WritesFile}
 use Rattle.text.specs.Page.{endToEnd}
 use Rattle.report.specs.Report.{imageReport, Inspects}
+use Rattle.demands.specs.Examples.{oldSample, newSample}
 
 -- what reading a file may give, where it is accepted: a layout and an image
 pub data Read (bytes : List ℕ) : Layout → List ℕ → Type 0 where
-  -- as the inspecting program does it: the header, and then as many words as are counted
-  inspecting : (header : Header) (count : ℕ) (lent image : List ℕ)
-      → HeaderRead bytes header
-      → headerNumber header ≡ 0
-      → CountsFileWords (length bytes) count
-      → length lent ≡ count
-      → ReadsWords bytes lent image
-      → Read bytes (headerLayout header) image
-  -- by one call
   whole : (header : Header) (lent kept image : List ℕ) → ReadsFile bytes lent header kept image → headerNumber header ≡ 0
       → Read bytes (headerLayout header) image
 
@@ -47,12 +41,27 @@ pub record Back (image : List ℕ) (layout : Layout) (file : List ℕ) : Type 0 
   pub whole : (header : Header) (lent kept after : List ℕ) → length lent ≡ length image → ReadsFile file lent header kept after → headerNumber header ≡ 0
   pub same : (named : Layout) (words : List ℕ) → Read file named words → (named ≡ layout) × (words ≡ image)
 
--- from a file to its image and back: writing is accepted where there is room, and gives the same bytes, all of them
+-- from a file of version 2 to its image and back: writing is accepted where there is room, and gives the same bytes, all of them
 pub record Again (bytes buffer : List ℕ) (answer : Written) (after : List ℕ) : Type 0 where
   pub accepted : writtenNumber answer ≡ 0
   pub count : writtenBytes answer ≡ length bytes
   pub same : take (length bytes) after ≡ bytes
   pub past : drop (length bytes) after ≡ drop (length bytes) buffer
+
+-- the file of version 2 that a file of version 1 becomes: the header is the same but for the version, and in the words rows 1 and 2 of each block are
+-- complemented
+abbrev pub renewed : List ℕ → List ℕ
+renewed bytes = 2 ∷ take 8 (drop 1 bytes) ++ bytesOf (complementedImage (layoutIn bytes) (wordsIn bytes))
+
+-- from a file of version 1 to its image and to that file, of which the same is printed
+pub record Renewed (bytes buffer : List ℕ) (answer : Written) (after : List ℕ) : Type 0 where
+  pub accepted : writtenNumber answer ≡ 0
+  pub count : writtenBytes answer ≡ length bytes
+  pub file : take (length bytes) after ≡ renewed bytes
+  pub past : drop (length bytes) after ≡ drop (length bytes) buffer
+  pub printed : (out : List ℕ) (end : ℕ) (left : List ℕ) (end' : ℕ) (left' : List ℕ) → Inspects bytes out end left
+      → Inspects (renewed bytes) out end' left'
+      → (end ≡ end') × (left ≡ left')
 
 -- the inspecting program prints of the file that was written the report of the image, and so what it prints of any file with that layout and those words
 pub record Printed (image : List ℕ) (layout : Layout) (file : List ℕ) : Type 0 where
@@ -86,14 +95,11 @@ Most shape most =
 
 -- ---- worked files
 
--- the specification's own: shape 1, s = 1, G = 1, row 3 is 1 and the others are 0; 73 bytes
+-- the specification's own, of version 1, and what it is in version 2: newSample; both hold one image, row 3 is 1 and the data are else zero
 abbrev pub sampleImage : List ℕ
-sampleImage = 0 ∷ 0 ∷ 1 ∷ replicate 13 0
+sampleImage = 0xFFFFFFFF ∷ 0xFFFFFFFF ∷ 1 ∷ replicate 13 0
 
-abbrev pub sampleFile : List ℕ
-sampleFile = 1 ∷ 0 ∷ 0 ∷ 0 ∷ 68 ∷ 1 ∷ 1 ∷ 0 ∷ 1 ∷ replicate 11 0 ++ 1 ∷ replicate 52 0
-
--- its first word is 01020304 hex, four bytes that differ: in the file the highest stands first
+-- an image whose first word is 01020304 hex, four bytes that differ: in the file the highest stands first
 abbrev pub wordedImage : List ℕ
 wordedImage = 16909060 ∷ replicate 15 0
 
@@ -108,10 +114,17 @@ ReadsBack = (image : List ℕ) (layout : Layout) (file : List ℕ) → Wrote ima
 
 abbrev pub WritesAgain : Type 0
 WritesAgain =
-    (bytes : List ℕ) (layout : Layout) (image : List ℕ) → FittingBytes bytes → Read bytes layout image
+    (bytes : List ℕ) (layout : Layout) (image : List ℕ) → FittingBytes bytes → versionIn bytes ≡ 2 → Read bytes layout image
     → (buffer : List ℕ) (answer : Written) (kept after : List ℕ) → length bytes ≤ length buffer
     → WritesFile image layout buffer answer kept after
     → Again bytes buffer answer after
+
+abbrev pub WritesNew : Type 0
+WritesNew =
+    (bytes : List ℕ) (layout : Layout) (image : List ℕ) → FittingBytes bytes → versionIn bytes ≡ 1 → Read bytes layout image
+    → (buffer : List ℕ) (answer : Written) (kept after : List ℕ) → length bytes ≤ length buffer
+    → WritesFile image layout buffer answer kept after
+    → Renewed bytes buffer answer after
 
 abbrev pub PrintsSame : Type 0
 PrintsSame = (image : List ℕ) (layout : Layout) (file : List ℕ) → Wrote image layout file → Printed image layout file
@@ -119,11 +132,13 @@ PrintsSame = (image : List ℕ) (layout : Layout) (file : List ℕ) → Wrote im
 pub record FileRoundTrip : Type 0 where
   pub back : ReadsBack
   pub again : WritesAgain
+  pub new : WritesNew
   pub printed : PrintsSame
-  pub sample : (file : List ℕ) → Wrote sampleImage (layoutOf 1 1 1) file → file ≡ sampleFile
+  pub sample : (file : List ℕ) → Wrote sampleImage (layoutOf 1 1 1) file → file ≡ newSample
+  pub old-sample : (layout : Layout) (image : List ℕ) → Read oldSample layout image → (layout ≡ layoutOf 1 1 1) × (image ≡ sampleImage)
   pub worded : (file : List ℕ) → Wrote wordedImage (layoutOf 1 1 1) file → take 4 (drop 9 file) ≡ 1 ∷ 2 ∷ 3 ∷ 4 ∷ []
-  pub headed-one : Headed 4800 (layoutOf 1 1 300) (1 ∷ 0 ∷ 0 ∷ 75 ∷ 4 ∷ 1 ∷ 1 ∷ 1 ∷ 44 ∷ [])
-  pub headed-two : Headed 1080 (layoutOf 2 3 5) (1 ∷ 0 ∷ 0 ∷ 16 ∷ 228 ∷ 2 ∷ 3 ∷ 0 ∷ 5 ∷ [])
+  pub headed-one : Headed 4800 (layoutOf 1 1 300) (2 ∷ 0 ∷ 0 ∷ 75 ∷ 4 ∷ 1 ∷ 1 ∷ 1 ∷ 44 ∷ [])
+  pub headed-two : Headed 1080 (layoutOf 2 3 5) (2 ∷ 0 ∷ 0 ∷ 16 ∷ 228 ∷ 2 ∷ 3 ∷ 0 ∷ 5 ∷ [])
   pub largest-one : Edge 1 511 8176 32713
   pub largest-two : Edge 2 113 8136 32553
   pub most-one : Most 1 511

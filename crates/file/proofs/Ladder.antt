@@ -3,6 +3,7 @@ use Prim.Native.Nat.{ℕ, zero, suc, _-_, _*_, _/_, _%_, _≤_}
 use mathlib.Core.Bool.{not}
 use mathlib.Core.Path.{_≡_, refl, sym, _∙_}
 use mathlib.Core.List.{List, [], _∷_, _++_}
+use mathlib.Core.Logic.{_⊎_}
 use native.Mathlib.Decide.{ℕ-discrete}
 use native.Mathlib.Omega.{arith}
 use borrow.Author.Tests.{eq-eqb, ne-eqb, eqb-true, eqb-false, ltb-false, not-true, not-false}
@@ -12,7 +13,7 @@ use Rattle.layout.specs.declared.Layout.{Layout}
 use Rattle.layout.specs.Layout.{rowsOf, blocks}
 use Rattle.ground.specs.Ladder.{_then_}
 use Rattle.ground.specs.Rules.{Rule, FirstOf}
-use Rattle.ground.proofs.Ladder.{Rung, rung-test, rung-below, then-first, then-assoc, then-zero, first-more, first-front, test-passed}
+use Rattle.ground.proofs.Ladder.{Rung, rung-test, rung-below, rung-neither, rung-passed, one-or-two, then-first, then-assoc, then-zero, first-more, first-front, test-passed}
 use Rattle.layout.specs.Refusal.{layoutRefusal, imageRefusal}
 use Rattle.layout.specs.Reason.{layoutRules}
 use Rattle.layout.proofs.Ladder.{Geometry, geometry, layout-first}
@@ -43,8 +44,11 @@ body-uneven body layout ne = rw (ne-eqb body (4 * (rowsOf layout * blocks layout
 pub record Framed (bytes : List ℕ) : Type 0 where
   pub most : length bytes ≤ 32768
   pub least : 9 ≤ length bytes
-  pub version : versionIn bytes ≡ 1
+  pub version : (versionIn bytes ≡ 1) ⊎ (versionIn bytes ≡ 2)
   pub field : fieldIn bytes ≡ length bytes - 5
+
+version-rung : (bytes : List ℕ) → Rung (badVersion bytes) (versionRung (versionIn bytes))
+version-rung bytes = rung-neither (badVersion bytes) (versionIn bytes) (λ r. r) (λ r. r)
 
 pub framed : (bytes : List ℕ) → frameRefusal bytes ≡ 0 → Framed bytes
 unfolding frameRefusal
@@ -55,7 +59,9 @@ framed bytes e =
     record {
       most = ltb-false 32768 (length bytes) (test-passed 10 _ (long .0));
       least = ltb-false (length bytes) 9 (test-passed 9 _ (short .0));
-      version = eqb-true (versionIn bytes) 1 (not-false _ (test-passed 8 _ (version .0)));
+      version =
+          one-or-two (versionIn bytes)
+          (rung-passed (badVersion bytes) (versionRung (versionIn bytes)) (λ z. omega arith) (version-rung bytes) (version .0));
       field = eqb-true (fieldIn bytes) (length bytes - 5) (not-false _ (test-passed 9 _ (version .1)));
     }
 
@@ -110,7 +116,7 @@ module _ (bytes : List ℕ) where
       (versionRung (versionIn bytes) then fieldRung (fieldIn bytes) (length bytes) then layout)
   from-version =
       first-front (badVersion bytes) (badField bytes ∷ rules ++ badBody bytes ∷ []) _ _ (λ z. omega arith)
-      (rung-test (badVersion bytes) (not (eqb (versionIn bytes) 1)) (λ e. eqb-false _ _ (not-true _ e)) (λ e r. r (eqb-true _ _ (not-false _ e))))
+      (version-rung bytes)
       from-field
 
   from-short : FirstOf (tooShort bytes ∷ badVersion bytes ∷ badField bytes ∷ rules ++ badBody bytes ∷ [])

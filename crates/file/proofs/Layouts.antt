@@ -6,14 +6,19 @@ use native.Mathlib.Nat.{min-eq-left}
 use native.Mathlib.Omega.{arith}
 use lib.ListN.{length}
 use Rattle.ground.proofs.Stores.{length-stores, stores-hit}
-use Rattle.ground.proofs.Lists.{list-is}
+use Rattle.ground.proofs.Lists.{length-listOf, list-is}
 use Rattle.layout.specs.declared.Layout.{Layout}
 use Rattle.layout.specs.Refusal.{imageRefusal}
 use Rattle.file.specs.declared.Header.the-variants.{Image}
-use Rattle.file.specs.Bytes.{layoutIn, wordCount, wordIn, wordsIn, wordsInto}
+use Rattle.file.specs.Bytes.{layoutIn, wordCount, wordIn, wordsIn}
+use Rattle.file.specs.Inner.{wordsInto}
 use Rattle.file.specs.Refusal.{fileRefusal}
 use Rattle.file.specs.Header.{headerIf, headerOf}
 use Rattle.file.proofs.Ladder.{accepted, body-words, frame-passed}
+
+pub length-words : (bytes : List ℕ) → length (wordsIn bytes) ≡ wordCount (length bytes)
+unfolding wordsIn
+length-words bytes = length-listOf (wordCount (length bytes)) (wordIn bytes)
 
 -- a lent image of as many words as the file has holds those words
 pub words-fill : (bytes image : List ℕ) → length image ≡ wordCount (length bytes) → wordsInto bytes image ≡ wordsIn bytes

@@ -7,7 +7,7 @@ use Rattle.ground.proofs.Same.{same}
 use Rattle.layout.specs.declared.Layout.{Layout}
 use Rattle.file.specs.declared.Header.{Header}
 use Rattle.file.specs.declared.Written.{Written}
-use Rattle.file.specs.Bytes.{layoutIn, CountsFileWords, ReadsWords}
+use Rattle.file.specs.Bytes.{layoutIn, CountsFileWords}
 use Rattle.file.specs.Refusal.{readRefusal}
 use Rattle.file.specs.Header.{HeaderRead, ReadsFile}
 use Rattle.file.specs.Written.{WritesFile}
@@ -19,9 +19,6 @@ one-header bytes {a} {b} p q = same (header-is bytes a p) (header-is bytes b q)
 
 pub one-count : (len : ℕ) {a b : ℕ} → CountsFileWords len a → CountsFileWords len b → a ≡ b
 one-count len p q = same p q
-
-pub one-file-words : (bytes image : List ℕ) {a b : List ℕ} → ReadsWords bytes image a → ReadsWords bytes image b → a ≡ b
-one-file-words bytes image p q = same p q
 
 pub one-file-read : (bytes image : List ℕ) {a b : Header} {kept kept' after after' : List ℕ}
     → ReadsFile bytes image a kept after

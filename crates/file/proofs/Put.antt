@@ -67,7 +67,7 @@ word-put words bytes k h =
 
 -- shape, s and G as one word
 pub head-put : (layout : Layout) (count room : ℕ) (bytes : List ℕ) → Small layout count room
-    → withWord (layout .shape * 16777216 + layout .s * 65536 + layout .g) (withWord (4 + 4 * count) (set bytes 0 1) 1) 5
+    → withWord (layout .shape * 16777216 + layout .s * 65536 + layout .g) (withWord (4 + 4 * count) (set bytes 0 2) 1) 5
     ≡ stores bytes (λ k. k) (headByte layout count) 9
 unfolding stores
 head-put layout count room bytes ok =

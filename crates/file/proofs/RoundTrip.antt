@@ -4,18 +4,19 @@ use mathlib.Core.Path.{_≡_, refl, sym, ap, ap₂, _∙_, fun-ext}
 use mathlib.Core.List.{List, [], _∷_, _++_}
 use native.Mathlib.Omega.{arith}
 use borrow.Author.Tests.{eq-eqb, le-ltb}
-use lib.ListN.{length, getD}
+use lib.ListN.{length, getD, take, drop}
 use lib.Seq.{getD-append-add}
 use Rattle.ground.specs.Lists.{listOf}
-use Rattle.ground.proofs.Lists.{length-listOf, list-is}
+use Rattle.ground.proofs.Lists.{list-is}
 use Rattle.ground.specs.Ladder.{_then_}
 use Rattle.layout.specs.declared.Layout.{Layout}
 use Rattle.layout.specs.Layout.{layoutOf}
 use Rattle.layout.specs.Refusal.{imageRefusal}
 use Rattle.file.specs.BigEndian.{pairOf, pairBytes, wordOf, wordBytes, wordAt}
-use Rattle.file.specs.Bytes.{FittingBytes, bytesOf, headOf, fileOf, fileLength, versionIn, fieldIn, layoutIn, wordCount, wordIn, wordsIn}
+use Rattle.file.specs.Bytes.{FittingBytes, bytesOf, headOf, fileOf, fileLength, versionIn, fieldIn, layoutIn, wordCount, wordIn, wordsIn, imageIn}
 use Rattle.file.specs.Refusal.{longRung, frameRefusal, bodyRefusal, fileRefusal}
 use Rattle.file.proofs.Ladder.{Accepted, accepted, body-words}
+use Rattle.file.proofs.Layouts.{length-words}
 
 -- ---- numbers and their bytes
 
@@ -90,9 +91,12 @@ module _ (layout : Layout) (words : List ℕ) where
       ∙ sym (list-is (length words) words (wordIn (fileOf layout words)) refl
       (λ k h. word-back words k h ∙ sym (word-past (headOf layout (length words)) (bytesOf words) (4 * k))))
 
-  version-back : versionIn (fileOf layout words) ≡ 1
+  pub version-back : versionIn (fileOf layout words) ≡ 2
   unfolding fileOf
   version-back = refl
+
+  pub image-back : imageIn (fileOf layout words) ≡ words
+  image-back = rw version-back words-back
 
   frame-back : frameRefusal (fileOf layout words) ≡ longRung (fileLength (length words))
   unfolding frameRefusal
@@ -150,25 +154,39 @@ head-of (a ∷ b ∷ c ∷ d ∷ e ∷ f ∷ g ∷ []) l = absurd (omega arith)
 head-of (a ∷ b ∷ c ∷ d ∷ e ∷ f ∷ g ∷ h ∷ []) l = absurd (omega arith)
 head-of (a ∷ b ∷ c ∷ d ∷ e ∷ f ∷ g ∷ h ∷ i ∷ rest) l = headed a b c d e f g h i rest
 
-pub length-words : (bytes : List ℕ) → length (wordsIn bytes) ≡ wordCount (length bytes)
-unfolding wordsIn
-length-words bytes = length-listOf (wordCount (length bytes)) (wordIn bytes)
+-- the header that is written of what was read is that of the file, but for the version; and so are the words
+head-again : (bytes : List ℕ) → FittingBytes bytes → Accepted bytes → Headed bytes → (count : ℕ) → count ≡ wordCount (length bytes)
+    → headOf (layoutIn bytes) count ≡ 2 ∷ take 8 (drop 1 bytes)
+head-again bytes small ok (headed a b c d e f g h i rest) count is =
+    let field : 4 + 4 * count ≡ wordOf b c d e = omega (arith, is, ok .body, ok .frame .field) in
+    ap₂ (λ (field groups : List ℕ). 2 ∷ field ++ f ∷ g ∷ groups)
+    (ap wordBytes field ∙ word-bytes b c d e (small 2) (small 3) (small 4))
+    (pair-bytes h i (small 8))
 
-same-bytes : (bytes : List ℕ) → FittingBytes bytes → Accepted bytes → Headed bytes
-    → fileOf (layoutIn bytes) (wordsIn bytes) ≡ bytes
-unfolding fileOf wordsIn
-same-bytes bytes small ok (headed a b c d e f g h i rest) =
+words-again : (bytes : List ℕ) → FittingBytes bytes → Accepted bytes → Headed bytes → bytesOf (wordsIn bytes) ≡ drop 9 bytes
+unfolding wordsIn
+words-again bytes small ok (headed a b c d e f g h i rest) =
     let count = wordCount (length bytes) in
     let size : length rest ≡ 4 * count = omega (arith, ok .body) in
-    let field : 4 + 4 * length (wordsIn bytes) ≡ wordOf b c d e = omega (arith, length-words bytes, ok .frame .field) in
-    ap₂ (λ (head words : List ℕ). head ++ words)
-    (ap₂ (λ (front groups : List ℕ). front ++ f ∷ g ∷ groups)
-    (ap₂ (λ (version : ℕ) (field : List ℕ). version ∷ field) (sym (ok .frame .version)) (ap wordBytes field ∙ word-bytes b c d e (small 2) (small 3) (small 4)))
-    (pair-bytes h i (small 8)))
-    (ap (λ (word : ℕ → ℕ). bytesOf (listOf count word)) (fun-ext (λ k. word-past (a ∷ b ∷ c ∷ d ∷ e ∷ f ∷ g ∷ h ∷ i ∷ []) rest (4 * k)))
-    ∙ bytes-back count rest (λ k. small (suc (suc (suc (suc (suc (suc (suc (suc (suc k)))))))))) size)
+    ap (λ (word : ℕ → ℕ). bytesOf (listOf count word)) (fun-ext (λ k. word-past (a ∷ b ∷ c ∷ d ∷ e ∷ f ∷ g ∷ h ∷ i ∷ []) rest (4 * k)))
+    ∙ bytes-back count rest (λ k. small (suc (suc (suc (suc (suc (suc (suc (suc (suc k)))))))))) size
 
--- the file of what was read from a file that is accepted is that file
-pub file-back : (bytes : List ℕ) → FittingBytes bytes → fileRefusal bytes ≡ 0
-    → fileOf (layoutIn bytes) (wordsIn bytes) ≡ bytes
-file-back bytes small e = let ok = accepted bytes e in same-bytes bytes small ok (head-of bytes (ok .frame .least))
+in-two : (bytes : List ℕ) → Headed bytes → versionIn bytes ≡ 2 → (2 ∷ take 8 (drop 1 bytes)) ++ drop 9 bytes ≡ bytes
+in-two bytes (headed a b c d e f g h i rest) version = ap (λ (v : ℕ). v ∷ b ∷ c ∷ d ∷ e ∷ f ∷ g ∷ h ∷ i ∷ rest) (sym version)
+
+module _ (bytes : List ℕ) (small : FittingBytes bytes) (e : fileRefusal bytes ≡ 0) where
+  abbrev whole : Headed bytes
+  whole = head-of bytes (accepted bytes e .frame .least)
+
+  -- the file of an image of as many words as were read: the header again, with version 2
+  pub file-renewed : (image : List ℕ) → length image ≡ wordCount (length bytes)
+      → fileOf (layoutIn bytes) image ≡ (2 ∷ take 8 (drop 1 bytes)) ++ bytesOf image
+  unfolding fileOf
+  file-renewed image size = ap (λ (head : List ℕ). head ++ bytesOf image) (head-again bytes small (accepted bytes e) whole (length image) size)
+
+  -- the file of what was read from a file of version 2 is that file
+  pub file-back : versionIn bytes ≡ 2 → fileOf (layoutIn bytes) (wordsIn bytes) ≡ bytes
+  file-back version =
+      file-renewed (wordsIn bytes) (length-words bytes)
+      ∙ ap (λ (words : List ℕ). (2 ∷ take 8 (drop 1 bytes)) ++ words) (words-again bytes small (accepted bytes e) whole)
+      ∙ in-two bytes whole version

@@ -1,13 +1,16 @@
--- Byte 0 of an image file is the version, 1. Bytes 1 to 4 hold, big-endian, the number of bytes after byte 4. Then stand the shape,
--- one byte, s, one byte, G, two bytes, big-endian, and then the words of the image, big-endian. Assumes nothing.
-use Prim.Native.Nat.{ℕ, _+_, _-_, _*_, _/_, _<_, min}
+-- Byte 0 of an image file is the version, 2; files from before have 1. Bytes 1 to 4 hold, big-endian, the number of bytes after byte 4. Then
+-- stand the shape, one byte, s, one byte, G, two bytes, big-endian, and then the words of the image, big-endian. In a file of version 1 the words of
+-- rows 1 and 2 of each block are not complemented. Assumes nothing.
+use Prim.Native.Nat.{ℕ, _+_, _-_, _*_, _/_, _<_}
+use mathlib.Core.Bool.{cond}
 use mathlib.Core.Path.{_≡_}
 use mathlib.Core.List.{List, [], _∷_, _++_}
+use lib.Dec.{eqb}
 use lib.ListN.{length, getD, drop}
 use Rattle.ground.specs.Lists.{listOf}
-use Rattle.ground.specs.Stores.{stores}
 use Rattle.layout.specs.declared.Layout.{Layout}
 use Rattle.layout.specs.Layout.{layoutOf}
+use Rattle.stored.specs.Stored.{complementedImage}
 use Rattle.file.specs.BigEndian.{pairBytes, wordBytes, pairAt, wordAt}
 
 -- every byte is below 256
@@ -22,7 +25,7 @@ bytesOf (word ∷ words) = wordBytes word ++ bytesOf words
 
 -- the nine bytes before the words, of which there are so many
 abbrev pub headOf : Layout → ℕ → List ℕ
-headOf layout count = 1 ∷ wordBytes (4 + 4 * count) ++ layout .shape ∷ layout .s ∷ pairBytes (layout .g)
+headOf layout count = 2 ∷ wordBytes (4 + 4 * count) ++ layout .shape ∷ layout .s ∷ pairBytes (layout .g)
 
 unfoldable pub fileOf : Layout → List ℕ → List ℕ
 fileOf layout words = headOf layout (length words) ++ bytesOf words
@@ -56,14 +59,13 @@ wordIn bytes k = wordAt bytes (9 + 4 * k)
 unfoldable pub wordsIn : List ℕ → List ℕ
 wordsIn bytes = listOf (wordCount (length bytes)) (wordIn bytes)
 
--- a lent image with the words copied to it, as many as fit; the words past them are as they were
-unfoldable pub wordsInto : List ℕ → List ℕ → List ℕ
-wordsInto bytes image = stores image (λ k. k) (wordIn bytes) (min (wordCount (length bytes)) (length image))
+-- the image that a file holds: its words as they stand; in a file of version 1 with rows 1 and 2 of each block complemented
+abbrev pub imageBy : (version : ℕ) → Layout → List ℕ → List ℕ
+imageBy version layout words = cond (eqb version 1) (complementedImage layout words) words
 
--- ---- the promises of word_count and read_words
+abbrev pub imageIn : List ℕ → List ℕ
+imageIn bytes = imageBy (versionIn bytes) (layoutIn bytes) (wordsIn bytes)
 
+-- the promise of word_count
 abbrev pub CountsFileWords : ℕ → ℕ → Type 0
 CountsFileWords len count = count ≡ wordCount len
-
-abbrev pub ReadsWords : List ℕ → List ℕ → List ℕ → Type 0
-ReadsWords bytes image left = left ≡ wordsInto bytes image

@@ -8,7 +8,7 @@ use Rattle.layout.specs.declared.Layout.{Layout}
 use Rattle.layout.specs.Layout.{layoutOf}
 use Rattle.file.specs.declared.Header.{Header}
 use Rattle.file.specs.declared.Header.the-variants.{Refused, Image}
-use Rattle.file.specs.Bytes.{layoutIn, wordsIn}
+use Rattle.file.specs.Bytes.{layoutIn, imageIn}
 use Rattle.file.specs.Refusal.{fileRefusal, readRefusal}
 
 -- the specification's number of a header, 0 where it is accepted, and the layout that it names, of zeros where it is refused
@@ -37,8 +37,8 @@ pub record HeaderTells (refusal : ℕ) (named : Layout) (header : Header) : Type
 abbrev pub HeaderRead : List ℕ → Header → Type 0
 HeaderRead bytes header = HeaderTells (fileRefusal bytes) (layoutIn bytes) header
 
--- the promise of read_file: the header; the image holds the file's words, or is as it was where anything is refused; the file stays
+-- the promise of read_file: the header; the image is the one that the file holds, or as it was where anything is refused; the file stays
 pub record ReadsFile (bytes image : List ℕ) (header : Header) (kept after : List ℕ) : Type 0 where
   pub answers : HeaderTells (readRefusal bytes (length image)) (layoutIn bytes) header
   pub keeps : kept ≡ bytes
-  pub leaves : after ≡ ifZero (readRefusal bytes (length image)) (wordsIn bytes) image
+  pub leaves : after ≡ ifZero (readRefusal bytes (length image)) (imageIn bytes) image

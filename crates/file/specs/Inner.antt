@@ -1,10 +1,15 @@
--- What the code computes on its way: bytes put one by one. Assumes nothing.
-use Prim.Native.Nat.{ℕ, _+_, _≤_, _<_}
+-- What the code computes on its way: words taken, and bytes put, one by one. Assumes nothing.
+use Prim.Native.Nat.{ℕ, _+_, _≤_, _<_, min}
 use mathlib.Core.List.{List}
-use lib.ListN.{set, getD}
+use lib.ListN.{length, set, getD}
+use Rattle.ground.specs.Stores.{stores}
 use Rattle.layout.specs.declared.Layout.{Layout}
 use Rattle.file.specs.BigEndian.{wordBytes}
-use Rattle.file.specs.Bytes.{bytesOf, headOf, fileLength}
+use Rattle.file.specs.Bytes.{bytesOf, headOf, fileLength, wordCount, wordIn}
+
+-- a lent image with the file's words copied to it, as many as fit; the words past them are as they were
+unfoldable pub wordsInto : List ℕ → List ℕ → List ℕ
+wordsInto bytes image = stores image (λ k. k) (wordIn bytes) (min (wordCount (length bytes)) (length image))
 
 -- bytes with the four of a word put at a place
 abbrev pub withWord : ℕ → List ℕ → ℕ → List ℕ

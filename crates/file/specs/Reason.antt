@@ -18,9 +18,9 @@ tooLong bytes = record { number = 11; reason = 32768 < length bytes }
 abbrev pub tooShort : List ℕ → Rule
 tooShort bytes = record { number = 10; reason = length bytes < 9 }
 
--- file version is not 1
+-- file version is neither 1 nor 2
 abbrev pub badVersion : List ℕ → Rule
-badVersion bytes = record { number = 9; reason = versionIn bytes ≡ 1 → ⊥ }
+badVersion bytes = record { number = 9; reason = (versionIn bytes ≡ 1 → ⊥) × (versionIn bytes ≡ 2 → ⊥) }
 
 -- its length field is wrong: it is not the number of bytes after byte 4
 abbrev pub badField : List ℕ → Rule

@@ -20,9 +20,9 @@ longRung len = 11 when ltb 32768 len else 0
 abbrev pub shortRung : ℕ → ℕ
 shortRung len = 10 when ltb len 9 else 0
 
--- 9: file version is not 1
+-- 9: file version is neither 1 nor 2
 abbrev pub versionRung : ℕ → ℕ
-versionRung version = 9 when not (eqb version 1) else 0
+versionRung version = 9 when eqb version 0 else 9 when ltb 2 version else 0
 
 -- 10: the length field is not the number of bytes after byte 4
 abbrev pub fieldRung : ℕ → ℕ → ℕ

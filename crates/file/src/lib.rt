@@ -6,7 +6,6 @@ mod writing;
 use layout::Layout;
 pub use reading::read_file;
 pub use reading::read_header;
-pub use reading::read_words;
 pub use reading::word_count;
 pub use writing::write_file;
 

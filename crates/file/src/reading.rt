@@ -1,5 +1,7 @@
 // The header and the words of a file.
-ghost use Rattle.file.specs.Bytes.{CountsFileWords, ReadsWords};
+ghost use mathlib.Core.Path.{_≡_};
+ghost use Rattle.file.specs.Bytes.{CountsFileWords};
+ghost use Rattle.file.specs.Inner.{wordsInto};
 ghost use Rattle.file.specs.Header.{HeaderRead, ReadsFile};
 use super::Header;
 use super::refusals::check_body;
@@ -37,8 +39,8 @@ pub fn word_count(len: usize) -> usize
 }
 
 // Copies the words after the header, as many as fit.
-pub fn read_words(bytes: &[u8], image: &mut [u32])
-    ensures { λ _. ⌜ ReadsWords (now (bytes .entry)) (now (image .entry)) (now (image .exit)) ⌝ }
+fn read_words(bytes: &[u8], image: &mut [u32])
+    ensures { λ _. ⌜ now (image .exit) ≡ wordsInto (now (bytes .entry)) (now (image .entry)) ⌝ }
 {
     let count = least(word_count(bytes.len()), image.len());
     for k in 0..count {
@@ -46,7 +48,7 @@ pub fn read_words(bytes: &[u8], image: &mut [u32])
     }
 }
 
-// Copies the words of a file to an image of exactly as many, and says what the header says.
+// Copies the image that a file holds to one of exactly as many words, and says what the header says.
 pub fn read_file(bytes: &[u8], image: &mut [u32]) -> Header
     ensures { λ r. ⌜ ReadsFile (now (bytes .entry)) (now (image .entry)) r (now (bytes .exit)) (now (image .exit)) ⌝ }
 {
@@ -57,6 +59,10 @@ pub fn read_file(bytes: &[u8], image: &mut [u32]) -> Header
                 return Header::Refused(4);
             }
             read_words(bytes, image);
+            // Version 1 has rows 1 and 2 as the code has them.
+            if bytes[0] == 1 {
+                stored::complement_image(image, layout);
+            }
             Header::Image(layout)
         }
     }

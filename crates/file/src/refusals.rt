@@ -6,6 +6,9 @@ ghost use Rattle.file.specs.BigEndian.{pairOf, wordAt};
 ghost use Rattle.file.specs.Refusal.{frameRefusal, bodyRefusal, writeRefusal};
 use layout::Layout;
 
+// What is written; of older versions there is 1.
+pub(crate) const VERSION: u8 = 2;
+
 // No file is longer.
 const LONGEST: usize = 32768;
 
@@ -43,7 +46,10 @@ pub(crate) fn check_frame(bytes: &[u8]) -> u32
         return 10;
     }
     let version = bytes[0];
-    if version != 1 {
+    if version == 0 {
+        return 9;
+    }
+    if VERSION < version {
         return 9;
     }
     let field = word_at(bytes, 1) as usize;

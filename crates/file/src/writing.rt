@@ -6,6 +6,7 @@ ghost use Rattle.ground.specs.Stores.{stores};
 ghost use Rattle.file.specs.Inner.{Small, headByte, bodyByte, withWord};
 ghost use Rattle.file.specs.Written.{WritesFile};
 use super::Written;
+use super::refusals::VERSION;
 use super::refusals::check_written;
 use layout::Layout;
 
@@ -25,7 +26,7 @@ fn put_header(layout: Layout, words: usize, bytes: &mut [u8])
     requires { ⌜ Small layout words (length (now bytes)) ⌝ }
     ensures { λ _. ⌜ now (bytes .exit) ≡ stores (now (bytes .entry)) (λ k. k) (headByte layout words) 9 ⌝ }
 {
-    bytes[0] = 1;
+    bytes[0] = VERSION;
     put_word((4 + 4 * words) as u32, bytes, 1);
     // Shape, s and the two bytes of G are the four bytes of one word.
     put_word(

@@ -6,7 +6,7 @@ use lib.ListN.{length}
 use Rattle.ground.specs.Choice.{ifZero}
 use Rattle.layout.specs.declared.Layout.{Layout}
 use Rattle.layout.specs.Layout.{layoutOf}
-use Rattle.file.specs.Bytes.{fileOf, fileInto, layoutIn, wordsIn}
+use Rattle.file.specs.Bytes.{fileOf, fileInto, layoutIn, imageIn}
 use Rattle.file.specs.Refusal.{fileRefusal, readRefusal, writeRefusal}
 use Rattle.words.specs.Layouts.{layoutWords}
 
@@ -27,5 +27,5 @@ pub record FileLayoutCall (bytes : List ℕ) (number : ℕ) (kept layout : List 
 pub record FileReadCall (bytes image : List ℕ) (number : ℕ) (kept after layout : List ℕ) : Type 0 where
   pub answers : number ≡ readRefusal bytes (length image)
   pub keeps : kept ≡ bytes
-  pub leaves : after ≡ ifZero (readRefusal bytes (length image)) (wordsIn bytes) image
+  pub leaves : after ≡ ifZero (readRefusal bytes (length image)) (imageIn bytes) image
   pub says : layout ≡ layoutWords (ifZero (readRefusal bytes (length image)) (layoutIn bytes) (layoutOf 0 0 0))

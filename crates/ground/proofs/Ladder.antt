@@ -7,7 +7,7 @@ use mathlib.Core.Logic.{_⊎_, inl, inr, ⊎-elim}
 use native.Mathlib.Decide.{ℕ-discrete}
 use native.Mathlib.Nat.{lt-of-not-le}
 use native.Mathlib.Omega.{arith}
-use borrow.Author.Tests.{ltb-true, ltb-false}
+use borrow.Author.Tests.{eqb-true, eqb-false, ltb-true, ltb-false}
 use lib.Dec.{T, eqb, ltb}
 use Rattle.ground.specs.Ladder.{_when_else_, _then_}
 use Rattle.ground.specs.Rules.{Rule, FirstOf}
@@ -37,6 +37,14 @@ pub rung-below : (rule : Rule) (low high : ℕ) → (low < high → rule .reason
     → Rung rule (rule .number when ltb low high else 0)
 rung-below rule low high make take =
     rung-test rule (ltb low high) (λ e. make (ltb-true low high e)) (λ e r. let l = take r in let m = ltb-false low high e in omega arith)
+
+-- a rule whose reason is that a number is neither 1 nor 2
+pub rung-neither : (rule : Rule) (n : ℕ) → ((n ≡ 1 → ⊥) × (n ≡ 2 → ⊥) → rule .reason) → (rule .reason → (n ≡ 1 → ⊥) × (n ≡ 2 → ⊥))
+    → Rung rule (rule .number when eqb n 0 else rule .number when ltb 2 n else 0)
+rung-neither rule n make take =
+    rung-tests rule (eqb n 0) (ltb 2 n) (λ e. make (let z = eqb-true n 0 e in (λ q. omega arith, λ q. omega arith)))
+    (λ e. make (let z = ltb-true 2 n e in (λ q. omega arith, λ q. omega arith)))
+    (λ e f r. let l = ltb-false 2 n f in omega (arith, eqb-false n 0 e, take r .0, take r .1))
 
 -- two tests that both hold for the rule's reason
 pub rung-both : (rule : Rule) {t u : Bool} {P Q : Type 0} → Told P t → Told Q u
@@ -122,6 +130,12 @@ not-zero n h = omega (arith, h)
 
 pub not-above : (top n : ℕ) → (top < n → ⊥) → n ≤ top
 not-above top n h = let l = lt-of-not-le h in omega arith
+
+pub one-or-two : (n : ℕ) → ((n ≡ 1 → ⊥) × (n ≡ 2 → ⊥) → ⊥) → (n ≡ 1) ⊎ (n ≡ 2)
+one-or-two zero h = absurd (h (λ e. omega arith, λ e. omega arith))
+one-or-two (suc zero) h = inl refl
+one-or-two (suc (suc zero)) h = inr refl
+one-or-two (suc (suc (suc n))) h = absurd (h (λ e. omega arith, λ e. omega arith))
 
 pub not-other : (n m : ℕ) → ((n ≡ m → ⊥) → ⊥) → n ≡ m
 not-other n m h = elim (ℕ-discrete n m) [

@@ -1,7 +1,7 @@
 -- A row's index is in range, and one to one over block and row: the group, the row and the place are its digits. Assumes nothing.
 use Prim.Native.Nat.{ℕ, zero, suc, _+_, _-_, _*_, _/_, _%_, _≤_, _<_}
 use mathlib.Core.Path.{_≡_, sym, ap, _∙_}
-use native.Mathlib.Nat.{add-mul, zero-mul, mul-comm, mul-right-comm, mod-lt, div-add-mod', div-lt-iff-lt-mul}
+use native.Mathlib.Nat.{add-mul, zero-mul, mul-comm, mul-assoc, mul-right-comm, mod-lt, div-add-mod', div-lt-iff-lt-mul}
 use native.Mathlib.Omega.{arith}
 use lib.Arith.{digits-lt, digits-div, digits-mod}
 
@@ -43,7 +43,7 @@ module _ (rows s : ℕ) (first : 1 ≤ s) where
   block-of : (block k : ℕ) → k < rows → indexBy rows s block (suc k) / s / rows * s + indexBy rows s block (suc k) % s ≡ block
   block-of block k h = rw (line-of block k, within-of block k, digits-div (block / s) h) (div-add-mod' block s)
 
-  row-of : (block k : ℕ) → k < rows → indexBy rows s block (suc k) / s % rows ≡ k
+  pub row-of : (block k : ℕ) → k < rows → indexBy rows s block (suc k) / s % rows ≡ k
   row-of block k h = rw (line-of block k) (digits-mod (block / s) h)
 
   pub one-to-one : (a p b q : ℕ) → 1 ≤ p → p ≤ rows → 1 ≤ q → q ≤ rows
@@ -65,3 +65,9 @@ module _ (rows s : ℕ) (first : 1 ≤ s) where
         mul-right-comm g rows s,
         mul-comm rows (g * s),
       )
+
+  -- the words of a group, row by row
+  pub row-in-group : (q j : ℕ) → j < rows * s → (q * (rows * s) + j) / s % rows ≡ j / s
+  row-in-group q j h =
+      let e : q * (rows * s) + j ≡ (q * rows + j / s) * s + j % s = omega (arith, add-mul (q * rows) (j / s) s, mul-assoc q rows s, div-add-mod' j s) in
+      rw (e, digits-div (q * rows + j / s) (mod-lt j first), digits-mod q (div-lt-iff-lt-mul first .1 h))

@@ -11,7 +11,7 @@ use borrow.Author.Tests.{eq-eqb, ne-eqb, eqb-false, eqb-true, ltb-false, ltb-tru
 use lib.Dec.{ltb, leb, eqb}
 use Rattle.shape.proofs.Sizes.{rows-fit}
 use Rattle.ground.specs.Rules.{FirstOf}
-use Rattle.ground.proofs.Ladder.{Rung, rung-test, rung-tests, rung-passed, then-assoc, then-zero, first-more, not-zero, not-above, not-other}
+use Rattle.ground.proofs.Ladder.{Rung, rung-test, rung-tests, rung-neither, rung-passed, then-assoc, then-zero, first-more, not-zero, not-above, one-or-two, not-other}
 use Rattle.layout.specs.declared.Layout.{Layout}
 use Rattle.layout.specs.Layout.{shapeOf, rowsOf, blocks}
 use Rattle.layout.specs.Refusal.{shapeRung, interleaveRung, groupsRung, lengthRung, blockRung, layoutRefusal, imageRefusal, blockRefusal}
@@ -39,22 +39,11 @@ pub record Accepted (len : ℕ) (layout : Layout) (block : ℕ) : Type 0 where
   pub exact : len ≡ rowsOf layout * blocks layout
   pub inside : block < blocks layout
 
-known : (shape : ℕ) → ((shape ≡ 1 → ⊥) × (shape ≡ 2 → ⊥) → ⊥) → (shape ≡ 1) ⊎ (shape ≡ 2)
-known zero h = absurd (h (λ e. omega arith, λ e. omega arith))
-known (suc zero) h = inl refl
-known (suc (suc zero)) h = inr refl
-known (suc (suc (suc n))) h = absurd (h (λ e. omega arith, λ e. omega arith))
-
 module _ (layout : Layout) where
   -- ---- the rungs
 
   shape-rung : Rung (noShape layout) (shapeRung layout)
-  shape-rung =
-      let shape = layout .shape in
-      rung-tests (noShape layout) (eqb shape 0) (ltb 2 shape)
-      (λ e. let z = eqb-true shape 0 e in (λ q. omega arith, λ q. omega arith))
-      (λ e. let z = ltb-true 2 shape e in (λ q. omega arith, λ q. omega arith))
-      (λ e f r. let l = ltb-false 2 shape f in omega (arith, eqb-false shape 0 e, r .0, r .1))
+  shape-rung = rung-neither (noShape layout) (layout .shape) (λ r. r) (λ r. r)
 
   interleave-rung : Rung (badInterleave layout) (interleaveRung layout)
   interleave-rung =
@@ -89,7 +78,7 @@ module _ (layout : Layout) where
       let interleave = rung-passed (badInterleave layout) (interleaveRung layout) (λ z. omega arith) interleave-rung (q .0) in
       let groups = rung-passed (badGroups layout) (groupsRung layout) (λ z. omega arith) groups-rung (q .1) in
       record {
-        shape-known = known (layout .shape) (rung-passed (noShape layout) (shapeRung layout) (λ z. omega arith) shape-rung (p .0));
+        shape-known = one-or-two (layout .shape) (rung-passed (noShape layout) (shapeRung layout) (λ z. omega arith) shape-rung (p .0));
         s-first = not-zero (layout .s) (λ z. interleave (inl z));
         s-last = not-above 16 (layout .s) (λ l. interleave (inr l));
         g-first = not-zero (layout .g) (λ z. groups (inl z));

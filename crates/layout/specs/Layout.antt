@@ -1,7 +1,7 @@
 -- An image has a shape, an interleave s, a group count G and N = G·s blocks. The shapes are numbered 1 and 2.
 -- Block b lies in group b div s at place b mod s. Its row p, counted from 1, is the word at index group·rows·s + (p − 1)·s + place.
 -- Assumes nothing.
-use Prim.Native.Nat.{ℕ, _+_, _-_, _*_, _/_, _%_}
+use Prim.Native.Nat.{ℕ, suc, _+_, _-_, _*_, _/_, _%_}
 use mathlib.Core.Bool.{cond}
 use mathlib.Core.Path.{_≡_}
 use lib.Dec.{eqb}
@@ -50,3 +50,15 @@ placeInGroup layout block = block % layout .s
 -- the index of a row of a block
 abbrev pub index : Layout → ℕ → ℕ → ℕ
 index layout block p = group layout block * rowsOf layout * layout .s + (p - 1) * layout .s + placeInGroup layout block
+
+-- the row, counted from 1, that the word at an index is of its block
+abbrev pub rowAt : Layout → ℕ → ℕ
+rowAt layout at = suc (at / layout .s % rowsOf layout)
+
+-- how many words a group has
+abbrev pub groupWords : Layout → ℕ
+groupWords layout = rowsOf layout * layout .s
+
+-- the promise of group_words
+abbrev pub CountsGroupWords : Layout → ℕ → Type 0
+CountsGroupWords layout count = count ≡ groupWords layout

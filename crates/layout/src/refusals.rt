@@ -1,6 +1,6 @@
 // The refusals of a layout and of an image's length, in the order of the table: the first that applies wins.
 ghost use mathlib.Core.Path.{_≡_};
-ghost use Rattle.layout.specs.Layout.{shapeOf, CountsBlocks};
+ghost use Rattle.layout.specs.Layout.{shapeOf, CountsBlocks, CountsGroupWords};
 ghost use Rattle.layout.specs.Refusal.{Checks, ChecksImage};
 use super::Layout;
 use shape::Shape;
@@ -22,6 +22,13 @@ impl Layout {
             return Shape::One;
         }
         Shape::Two
+    }
+
+    // How many words a group has.
+    pub fn group_words(self) -> usize
+        ensures { λ r. ⌜ CountsGroupWords self r ⌝ }
+    {
+        rows(self.shape_of()) * (self.s as usize)
     }
 
     // Refusals 1, 2 and 3: shape, interleave and groups.

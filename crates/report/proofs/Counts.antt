@@ -36,7 +36,7 @@ module _ (image : List ℕ) (layout : Layout) where
       count-most (shapeOf layout) _
       (rw (length-gathered layout n (visitedBelow image layout n)) (rows-fit (shapeOf layout)))
 
-  pub tally-within : (n : ℕ) → Within n (tallyBelow image layout n)
+  pub tally-within : (n : ℕ) → Within n (tallyBelow (verdictAt image layout) n)
   unfolding tallyBelow
   tally-within zero = record { clean = omega arith; mended = omega arith; lost = omega arith; bits = omega arith }
-  tally-within (suc n) = one-more n (verdictAt image layout n) (tallyBelow image layout n) (omega (arith, verdict-most n)) (tally-within n)
+  tally-within (suc n) = one-more n (verdictAt image layout n) (tallyBelow (verdictAt image layout) n) (omega (arith, verdict-most n)) (tally-within n)

@@ -1,13 +1,13 @@
 -- A file has at most 8,176 words and a report at most 10,204 bytes, so that buffers of those sizes hold them whole. Assumes nothing.
-use Prim.Native.Nat.{ℕ, zero, suc, _+_, _-_, _*_, _≤_, _<_}
-use mathlib.Core.Bool.{Bool, true, cond, _&&_}
+use Prim.Native.Nat.{ℕ, zero, suc, _+_, _-_, _*_, _≤_, _<_, min}
+use mathlib.Core.Bool.{Bool, true, not, _&&_}
 use mathlib.Core.Path.{_≡_, refl, sym, ap, _∙_}
 use mathlib.Core.List.{List, [], _∷_, _++_}
 use mathlib.Core.Logic.{⊎-elim}
 use native.Mathlib.Decide.{decLt}
-use native.Mathlib.Nat.{zero-add, mul-le-mul-left}
+use native.Mathlib.Nat.{zero-add, mul-le-mul-left, min-eq-left}
 use native.Mathlib.Omega.{arith}
-use borrow.Author.Tests.{le-leb}
+use borrow.Author.Tests.{eq-eqb}
 use lib.Dec.{T, leb, leb→le}
 use lib.ListN.{length, take, drop, length-append}
 use lib.Seq.{take-at, drop-at}
@@ -21,23 +21,26 @@ use Rattle.block.proofs.Told.{beyond-one}
 use Rattle.layout.specs.declared.Layout.{Layout}
 use Rattle.layout.specs.Layout.{shapeOf, blocks}
 use Rattle.store.specs.Image.{gathered}
+use Rattle.ground.specs.Ladder.{_when_else_, _then_}
 use Rattle.ground.specs.Rules.{Rule, FirstOf}
 use Rattle.layout.proofs.Ladder.{Geometry}
 use Rattle.layout.proofs.Shapes.{shape-one, shape-two}
 use Rattle.file.specs.declared.Header.{Header}
 use Rattle.file.specs.declared.Header.the-variants.{Image}
-use Rattle.file.specs.Bytes.{layoutIn, wordCount, wordsIn}
-use Rattle.file.specs.Refusal.{fileRefusal}
+use Rattle.file.specs.Bytes.{layoutIn, wordCount, imageIn}
+use Rattle.layout.specs.Refusal.{lengthRung}
+use Rattle.file.specs.Refusal.{fileRefusal, readRefusal}
 use Rattle.file.specs.Reason.{fileRules}
 use Rattle.file.specs.Header.{headerIf, headerOf}
 use Rattle.file.proofs.Ladder.{Accepted, accepted, file-first}
+use Rattle.file.proofs.FileReads.{words-exact}
 use Rattle.report.specs.declared.Tally.{Tally}
 use Rattle.ground.proofs.Bools.{left-part, right-part}
 use Rattle.text.specs.Text.{decimal}
 use Rattle.text.specs.Page.{Page, page, writtenAll, endToEnd}
 use Rattle.report.specs.Lines.{refusalLine, imageLine, verdictParts, blockLine, totalLine, counted}
 use Rattle.report.specs.Report.{visitedBelow, blockLines, tallyBelow, verdictAt, imageReport, reportFor, reportOf, Inspects}
-use Rattle.report.specs.Inner.{room?, Reports}
+use Rattle.report.specs.Inner.{headerFor, Reports}
 use Rattle.report.proofs.Short.{Short, _and_, named-short, any-length, loosely, one-end, nothing, and-then, one-text, one-number}
 use Rattle.report.proofs.Counts.{Within, verdict-most, tally-within}
 use Rattle.text.proofs.Decimal.{decimal-short}
@@ -154,7 +157,7 @@ end-to-end-last (first ∷ lines) line =
     omega (arith, end-to-end-last lines line)
 
 blocks-short : (image : List ℕ) (layout : Layout) (n : ℕ) → n ≤ 511
-    → length (endToEnd (blockLines image layout n)) + 2 * tallyBelow image layout n .clean ≤ 18 * n + besides (shapeOf layout) n + (n - 10) + (n - 100)
+    → length (endToEnd (blockLines (verdictAt image layout) n)) + 2 * tallyBelow (verdictAt image layout) n .clean ≤ 18 * n + besides (shapeOf layout) n + (n - 10) + (n - 100)
 unfolding blockLines tallyBelow endToEnd verdictAt
 blocks-short image layout zero h = omega arith
 blocks-short image layout (suc n) h =
@@ -163,8 +166,8 @@ blocks-short image layout (suc n) h =
     let second = second-digits (shapeOf layout) (gathered layout n (visitedBelow image layout n)) (omega arith) in
     omega (
       arith,
-      end-to-end-last (blockLines image layout n) (blockLine n v),
-      block-short n v (tallyBelow image layout n) (besides (shapeOf layout) 1) (omega arith) second,
+      end-to-end-last (blockLines (verdictAt image layout) n) (blockLine n v),
+      block-short n v (tallyBelow (verdictAt image layout) n) (besides (shapeOf layout) 1) (omega arith) second,
       one-besides (shapeOf layout) n,
       digits n (omega arith),
       blocks-short image layout n (omega arith),
@@ -181,17 +184,17 @@ unfolding imageReport endToEnd
 report-short image layout ok h =
     let n = blocks layout in
     let few : n ≤ 511 = omega (arith, few-blocks (shapeOf layout)) in
-    let total = totalLine (tallyBelow image layout n) in
+    let total = totalLine (tallyBelow (verdictAt image layout) n) in
     let first = imageLine layout n in
-    let rest = blockLines image layout n ++ total ∷ [] in
+    let rest = blockLines (verdictAt image layout) n ++ total ∷ [] in
     omega (
       arith,
       length-append first (endToEnd rest),
       image-short layout ok few .few,
-      end-to-end-last (blockLines image layout n) total,
+      end-to-end-last (blockLines (verdictAt image layout) n) total,
       blocks-short image layout n few,
       lines-most (shapeOf layout) n h,
-      total-short n (tallyBelow image layout n) few (tally-within image layout n) .few,
+      total-short n (tallyBelow (verdictAt image layout) n) few (tally-within image layout n) .few,
     )
 
 -- ---- the report of a file
@@ -238,34 +241,43 @@ module _ (bytes : List ℕ) where
   unfolding reportOf headerOf endToEnd
   file-short = by (fileRefusal bytes) refl
     where
-      by : (n : ℕ) → fileRefusal bytes ≡ n → length (endToEnd (reportFor (headerIf n found) (wordsIn bytes))) ≤ 10204
+      by : (n : ℕ) → fileRefusal bytes ≡ n → length (endToEnd (reportFor (headerIf n found) (imageIn bytes))) ≤ 10204
       by zero e =
           let ok = accepted bytes e in
-          report-short (wordsIn bytes) (layoutIn bytes) (ok .geometry) (file-most bytes ok .0)
+          report-short (imageIn bytes) (layoutIn bytes) (ok .geometry) (file-most bytes ok .0)
       by (suc n) e =
           let most = number-most bytes in
           let short = refusal-short (suc n) (omega arith) .few in
           omega (arith, length-append (refusalLine (suc n)) [])
 
-  file-room : (image : List ℕ) → 8176 ≤ length image → room? (headerOf bytes) bytes image ≡ true
-  unfolding headerOf
-  file-room image h = by (fileRefusal bytes) refl
+  -- an image of 8,176 words has room, so that none is refused for its length
+  file-room : (room : ℕ) → 8176 ≤ room → headerFor bytes (min (wordCount (length bytes)) room) ≡ headerOf bytes
+  unfolding headerOf readRefusal
+  file-room room h = by (fileRefusal bytes) refl
     where
-      by : (n : ℕ) → fileRefusal bytes ≡ n → room? (headerIf n found) bytes image ≡ true
-      by zero e = le-leb (wordCount (length bytes)) (length image) (omega (arith, file-most bytes (accepted bytes e) .1))
+      count : ℕ
+      count = min (wordCount (length bytes)) room
+
+      by : (n : ℕ) → fileRefusal bytes ≡ n → headerIf (n then lengthRung count (layoutIn bytes)) found ≡ headerIf n found
+      by zero e =
+          let few = file-most bytes (accepted bytes e) .1 in
+          let all : count ≡ wordCount (length bytes) = min-eq-left (omega arith) in
+          let fits = eq-eqb count _ (all ∙ words-exact bytes e) in
+          ap (λ (t : Bool). headerIf (4 when not t else 0) found) fits
       by (suc n) e = refl
 
 -- with 8,176 words and 10,204 bytes lent, the report is there whole, from byte 0 on, and the bytes past it are as they were
-pub report-whole : {bytes image out after printed : List ℕ} {next : ℕ} → Reports bytes image out next after printed
-    → 8176 ≤ length image
+pub report-whole : {bytes out printed : List ℕ} {room next : ℕ} → Reports bytes (min (wordCount (length bytes)) room) out next printed
+    → 8176 ≤ room
     → 10204 ≤ length out
     → Inspects bytes out next printed
-report-whole {bytes} {image} {out} {after} {printed} {next} r h k =
+unfolding reportOf
+report-whole {bytes} {out} {printed} {room} {next} r h k =
     let text = endToEnd (reportOf bytes) in
     let short = file-short bytes in
     let there : page printed next ≡ page (text ++ drop (length text) out) (length text) =
-    r .prints
-    ∙ ap (λ (b : Bool). cond b (writtenAll (reportOf bytes) (page out 0)) (page out 0)) (file-room bytes image h)
+    r
+    ∙ ap (λ (header : Header). writtenAll (reportFor header (imageIn bytes)) (page out 0)) (file-room bytes room h)
     ∙ all-fit (reportOf bytes) out 0 (omega arith)
     ∙ ap (λ (n : ℕ). page (text ++ drop n out) n) (zero-add (length text)) in
     record {

@@ -1,20 +1,17 @@
--- What the code computes on its way: a tally that has room, and a report with an image lent. Assumes nothing.
+-- What the code computes on its way: a tally that has room, and a report with an image lent for it. Assumes nothing.
 use Prim.Native.Nat.{ℕ, _≤_}
-use mathlib.Core.Bool.{Bool, true, cond}
 use mathlib.Core.Path.{_≡_}
-use mathlib.Core.List.{List, _++_}
-use lib.Dec.{leb}
-use lib.ListN.{length, drop}
+use mathlib.Core.List.{List}
 use Rattle.block.specs.declared.Verdict.{Verdict}
 use Rattle.block.specs.Verdict.{verdictCount}
-use Rattle.layout.specs.Layout.{blocks}
 use Rattle.file.specs.declared.Header.{Header}
-use Rattle.file.specs.declared.Header.the-variants.{Refused, Image}
-use Rattle.file.specs.Bytes.{wordCount, wordsIn}
-use Rattle.file.specs.Header.{headerOf}
+use Rattle.file.specs.declared.Header.the-variants.{Image}
+use Rattle.file.specs.Bytes.{layoutIn, imageIn}
+use Rattle.file.specs.Refusal.{readRefusal}
+use Rattle.file.specs.Header.{headerIf}
 use Rattle.text.specs.Page.{page, writtenAll}
 use Rattle.report.specs.declared.Tally.{Tally}
-use Rattle.report.specs.Report.{visitedBelow, reportOf}
+use Rattle.report.specs.Report.{reportFor}
 
 -- a tally of at most 4,096 blocks, and a verdict of at most 32 bits
 pub record Countable (verdict : Verdict) (tally : Tally) : Type 0 where
@@ -26,20 +23,10 @@ pub record Countable (verdict : Verdict) (tally : Tally) : Type 0 where
 
 -- ---- a file
 
--- the lent image has room for the words, if there are any to copy
-abbrev pub room? : Header → List ℕ → List ℕ → Bool
-room? (Refused number) bytes image = true
-room? (Image layout) bytes image = leb (wordCount (length bytes)) (length image)
+-- the header of a file that is read into an image of so many words
+abbrev pub headerFor : List ℕ → ℕ → Header
+headerFor bytes len = headerIf (readRefusal bytes len) (Image (layoutIn bytes))
 
--- the lent image after the blocks were visited there; words past them, and an image with no room, are as they were
-abbrev pub visitedFor : Header → List ℕ → List ℕ → List ℕ
-visitedFor (Refused number) bytes image = image
-visitedFor (Image layout) bytes image =
-    cond (leb (wordCount (length bytes)) (length image))
-    (visitedBelow (wordsIn bytes) layout (blocks layout) ++ drop (wordCount (length bytes)) image)
-    image
-
--- the lines of a file with an image lent: they are written from byte 0 on, each that fits; where it has no room, none is
-pub record Reports (bytes image out : List ℕ) (next : ℕ) (after printed : List ℕ) : Type 0 where
-  pub prints : page printed next ≡ cond (room? (headerOf bytes) bytes image) (writtenAll (reportOf bytes) (page out 0)) (page out 0)
-  pub leaves : after ≡ visitedFor (headerOf bytes) bytes image
+-- its lines, written from byte 0 on, each that fits
+abbrev pub Reports : (bytes : List ℕ) (len : ℕ) (out : List ℕ) (next : ℕ) (printed : List ℕ) → Type 0
+Reports bytes len out next printed = page printed next ≡ writtenAll (reportFor (headerFor bytes len) (imageIn bytes)) (page out 0)

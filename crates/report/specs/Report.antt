@@ -12,7 +12,7 @@ use Rattle.store.specs.Image.{gathered}
 use Rattle.store.specs.Visit.{visitAfter}
 use Rattle.file.specs.declared.Header.{Header}
 use Rattle.file.specs.declared.Header.the-variants.{Refused, Image}
-use Rattle.file.specs.Bytes.{wordsIn}
+use Rattle.file.specs.Bytes.{imageIn}
 use Rattle.file.specs.Header.{headerOf}
 use Rattle.report.specs.declared.Tally.{Tally}
 use Rattle.text.specs.Page.{endToEnd}
@@ -29,31 +29,35 @@ visitedBelow image layout (suc n) = visitAfter (visitedBelow image layout n) lay
 unfoldable pub verdictAt : List ℕ → Layout → ℕ → Verdict
 verdictAt image layout block = verdictOf (shapeOf layout) (gathered layout block (visitedBelow image layout block))
 
--- the lines of the blocks below n, and their tally
-unfoldable pub blockLines : List ℕ → Layout → ℕ → List (List ℕ)
-blockLines image layout zero = []
-blockLines image layout (suc n) = blockLines image layout n ++ blockLine n (verdictAt image layout n) ∷ []
+-- the lines of the blocks below n, and their tally, by the verdict on each
+unfoldable pub blockLines : (ℕ → Verdict) → ℕ → List (List ℕ)
+blockLines verdicts zero = []
+blockLines verdicts (suc n) = blockLines verdicts n ++ blockLine n (verdicts n) ∷ []
 
-unfoldable pub tallyBelow : List ℕ → Layout → ℕ → Tally
-tallyBelow image layout zero = noBlocks
-tallyBelow image layout (suc n) = counted (verdictAt image layout n) (tallyBelow image layout n)
+unfoldable pub tallyBelow : (ℕ → Verdict) → ℕ → Tally
+tallyBelow verdicts zero = noBlocks
+tallyBelow verdicts (suc n) = counted (verdicts n) (tallyBelow verdicts n)
+
+-- the lines of a layout whose blocks have these verdicts
+abbrev pub linesBy : Layout → (ℕ → Verdict) → List (List ℕ)
+linesBy layout verdicts =
+    imageLine layout (blocks layout)
+    ∷ blockLines verdicts (blocks layout)
+    ++ totalLine (tallyBelow verdicts (blocks layout))
+    ∷ []
 
 unfoldable pub imageReport : List ℕ → Layout → List (List ℕ)
-imageReport image layout =
-    imageLine layout (blocks layout)
-    ∷ blockLines image layout (blocks layout)
-    ++ totalLine (tallyBelow image layout (blocks layout))
-    ∷ []
+imageReport image layout = linesBy layout (verdictAt image layout)
 
 -- ---- a file
 
 abbrev pub reportFor : Header → List ℕ → List (List ℕ)
-reportFor (Refused number) words = refusalLine number ∷ []
-reportFor (Image layout) words = imageReport words layout
+reportFor (Refused number) image = refusalLine number ∷ []
+reportFor (Image layout) image = imageReport image layout
 
 -- the lines that are printed of a file
 unfoldable pub reportOf : List ℕ → List (List ℕ)
-reportOf bytes = reportFor (headerOf bytes) (wordsIn bytes)
+reportOf bytes = reportFor (headerOf bytes) (imageIn bytes)
 
 -- the promise of inspect: the bytes up to the end that it answers are the whole report, and those past it are as they were
 pub record Inspects (bytes out : List ℕ) (end : ℕ) (left : List ℕ) : Type 0 where

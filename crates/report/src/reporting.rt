@@ -1,13 +1,12 @@
 // The report of a file: its refusal, or what the visit of each block finds.
 ghost use mathlib.Core.Path.{_≡_};
-ghost use Prim.Native.Nat.{_<_};
+ghost use Prim.Native.Nat.{min};
 ghost use lib.ListN.{length};
-ghost use Rattle.layout.specs.Layout.{blocks};
 ghost use Rattle.layout.specs.Refusal.{imageRefusal};
-ghost use Rattle.file.specs.Bytes.{wordCount, wordsIn};
+ghost use Rattle.file.specs.Bytes.{wordCount};
 ghost use Rattle.text.specs.Page.{page, writtenAll};
 ghost use Rattle.report.specs.Lines.{counted};
-ghost use Rattle.report.specs.Report.{visitedBelow, imageReport, Inspects};
+ghost use Rattle.report.specs.Report.{imageReport, Inspects};
 ghost use Rattle.report.specs.Inner.{Countable, Reports};
 use super::REPORT_BYTES;
 use super::Tally;
@@ -17,6 +16,7 @@ use super::lines::refusal_line;
 use super::lines::total_line;
 use block::Verdict;
 use file::Header;
+use ground::least;
 use layout::Layout;
 use store::visit_accepted;
 
@@ -47,8 +47,7 @@ fn count(tally: Tally, verdict: Verdict) -> Tally
 // Visits each block of an image whose layout is accepted.
 fn report_image(image: &mut [u32], layout: Layout, out: &mut [u8]) -> usize
     requires { ⌜ imageRefusal (length (now image)) layout ≡ 0 ⌝ }
-    ensures prints { λ r. ⌜ page (now (out .exit)) r ≡ writtenAll (imageReport (now (image .entry)) layout) (page (now (out .entry)) 0) ⌝ }
-    ensures leaves { λ r. ⌜ now (image .exit) ≡ visitedBelow (now (image .entry)) layout (blocks layout) ⌝ }
+    ensures { λ r. ⌜ page (now (out .exit)) r ≡ writtenAll (imageReport (now (image .entry)) layout) (page (now (out .entry)) 0) ⌝ }
 {
     let n = layout.blocks() as u32;
     let mut at = image_line(layout, n, out, 0);
@@ -66,31 +65,24 @@ fn report_image(image: &mut [u32], layout: Layout, out: &mut [u8]) -> usize
     total_line(tally, out, at)
 }
 
-// Copies the words of a file to an image of their number, and visits each block there.
-fn report_copied(bytes: &[u8], image: &mut [u32], layout: Layout, out: &mut [u8]) -> usize
-    requires { ⌜ (length (now image) ≡ wordCount (length (now bytes))) × (imageRefusal (wordCount (length (now bytes))) layout ≡ 0) ⌝ }
-    ensures prints { λ r. ⌜ page (now (out .exit)) r ≡ writtenAll (imageReport (wordsIn (now (bytes .entry))) layout) (page (now (out .entry)) 0) ⌝ }
-    ensures leaves { λ r. ⌜ now (image .exit) ≡ visitedBelow (wordsIn (now (bytes .entry))) layout (blocks layout) ⌝ }
+// Reads a file into the lent image, visits each block there, and writes the report from byte 0 of `out` on; answers its end.
+// Of a file that is refused the report is that line.
+fn report_read(bytes: &[u8], image: &mut [u32], out: &mut [u8]) -> usize
+    ensures { λ r. ⌜ Reports (now (bytes .entry)) (length (now (image .entry))) (now (out .entry)) r (now (out .exit)) ⌝ }
 {
-    file::read_words(bytes, image);
-    report_image(image, layout, out)
+    match file::read_file(bytes, image) {
+        Header::Refused(number) => refusal_line(number, out, 0),
+        Header::Image(layout) => report_image(image, layout, out),
+    }
 }
 
-// Copies the words of a file to the lent image, visits each block there, and writes the report from byte 0 of `out` on; answers its end.
-// Of a file that is refused the report is that line; where the image has no room for its words there is none.
+// The same, with the words of the image that the file has, or all of them where it has more.
 fn report_file(bytes: &[u8], image: &mut [u32], out: &mut [u8]) -> usize
-    ensures { λ r. ⌜ Reports (now (bytes .entry)) (now (image .entry)) (now (out .entry)) r (now (image .exit)) (now (out .exit)) ⌝ }
+    ensures { λ r.
+        ⌜ Reports (now (bytes .entry)) (min (wordCount (length (now (bytes .entry)))) (length (now (image .entry)))) (now (out .entry)) r (now (out .exit)) ⌝ }
 {
-    match file::read_header(bytes) {
-        Header::Refused(number) => refusal_line(number, out, 0),
-        Header::Image(layout) => {
-            let count = file::word_count(bytes.len());
-            if image.len() < count {
-                return 0;
-            }
-            report_copied(bytes, &mut image[..count], layout, out)
-        }
-    }
+    let count = least(file::word_count(bytes.len()), image.len());
+    report_read(bytes, &mut image[..count], out)
 }
 
 // Writes the whole report of a file, whatever its bytes, from byte 0 of `out` on; answers its end.

@@ -17,7 +17,7 @@ use Rattle.ground.proofs.Lists.{list-is}
 use Rattle.store.specs.declared.Answer.{Answer}
 use Rattle.store.specs.declared.Answer.the-variants.{Refused, Stored, Found}
 use Rattle.store.specs.Answer.{verdictIn}
-use Rattle.store.specs.Inner.{strideRead, strideWrite}
+use Rattle.store.specs.Inner.{taken, put}
 use Rattle.store.specs.Image.{gathered, placed}
 use Rattle.store.specs.Write.{writeAnswer, writeAfter, Writes}
 use Rattle.store.specs.Read.{readAnswer, readBuffer, mendedData, Reads}
@@ -63,14 +63,14 @@ module _ (image : List ℕ) (layout : Layout) (block number : ℕ) where
 
 module _ (image : List ℕ) {layout : Layout} {block : ℕ} {shape : Shape} {at : ℕ} (site : Located (length image) layout block shape at) where
   -- the rows that are gathered are the block, and those that are scattered lie where it does
-  whole : strideRead image at (layout .s) blank (rows shape) ≡ gathered layout block image
+  whole : taken shape image at (layout .s) ≡ gathered layout block image
   whole = rw (site .first, site .same-shape) (gathered-stride layout block image)
 
-  scattered : (given : List ℕ) → strideWrite image at (layout .s) given (rows shape) ≡ placed layout block given image
+  scattered : (given : List ℕ) → put shape image at (layout .s) given ≡ placed layout block given image
   scattered given = rw (site .first, site .same-shape) (placed-stride layout block given image)
 
   pub write-stored : (list valid after : List ℕ) → length list ≡ words shape → valid ≡ validBlock shape list
-      → after ≡ strideWrite image at (layout .s) valid (rows shape)
+      → after ≡ put shape image at (layout .s) valid
       → Writes image layout block list Stored after
   unfolding writeAnswer writeAfter
   write-stored list valid after fits e w =
@@ -78,7 +78,7 @@ module _ (image : List ℕ) {layout : Layout} {block : ℕ} {shape : Shape} {at 
       writes _ _ _ _ (rw none)
       (rw none (w ∙ scattered valid ∙ ap (λ (l : List ℕ). placed layout block l image) (e ∙ ap (λ (k : Shape). validBlock k list) (site .same-shape))))
 
-  module _ (found : List ℕ) (took : found ≡ strideRead image at (layout .s) blank (rows shape)) (v : Verdict) (says : v ≡ verdictOf shape found) where
+  module _ (found : List ℕ) (took : found ≡ taken shape image at (layout .s)) (v : Verdict) (says : v ≡ verdictOf shape found) where
     seen : found ≡ gathered layout block image
     seen = took ∙ whole
 
@@ -88,7 +88,7 @@ module _ (image : List ℕ) {layout : Layout} {block : ℕ} {shape : Shape} {at 
     mends : (mended : List ℕ) → mended ≡ mendedBlock shape found → mended ≡ mendedBlock (shapeOf layout) (gathered layout block image)
     mends mended e = e ∙ ap₂ mendedBlock (site .same-shape) seen
 
-    pub visit-found : (after : List ℕ) → after ≡ strideWrite image at (layout .s) (mendedBlock shape found) (rows shape)
+    pub visit-found : (after : List ℕ) → after ≡ put shape image at (layout .s) (mendedBlock shape found)
         → Visits image layout block (Found v) after
     unfolding visitAnswer visitAfter
     visit-found after w =
@@ -117,15 +117,15 @@ module _ (image : List ℕ) {layout : Layout} {block : ℕ} {shape : Shape} {at 
           (a ∙ data-fills shape mended buffer fits ∙ ap₂ dataOf (site .same-shape) (mends mended e)))
 
   -- the data of a valid block are read where they lie
-  pub read-clean : Clean ≡ verdictOf shape (strideRead image at (layout .s) blank (rows shape)) → (buffer after : List ℕ) → length buffer ≡ words shape
-      → after ≡ dataInto shape (strideRead image at (layout .s) blank (rows shape)) buffer
+  pub read-clean : Clean ≡ verdictOf shape (taken shape image at (layout .s)) → (buffer after : List ℕ) → length buffer ≡ words shape
+      → after ≡ dataInto shape (taken shape image at (layout .s)) buffer
       → Reads image layout block buffer (Found Clean) image after
   read-clean says buffer after fits e =
       read-data _ refl Clean says buffer fits (hit (0 ∷ 1 ∷ []) 0 tt) _ after
-      (sym (not-mended shape (strideRead image at (layout .s) blank (rows shape)) Clean says (read-long image shape at (layout .s)) (hit (0 ∷ 2 ∷ []) 0 tt))) e
+      (sym (not-mended shape (taken shape image at (layout .s)) Clean says (read-long image shape at (layout .s)) (hit (0 ∷ 2 ∷ []) 0 tt))) e
 
   -- a valid block is left where it lies
-  pub visit-clean : Clean ≡ verdictOf shape (strideRead image at (layout .s) blank (rows shape)) → Visits image layout block (Found Clean) image
+  pub visit-clean : Clean ≡ verdictOf shape (taken shape image at (layout .s)) → Visits image layout block (Found Clean) image
   visit-clean says = visit-found _ refl Clean says image (left image shape at (layout .s) Clean says (hit (0 ∷ 2 ∷ []) 0 tt))
 
 -- a visit for a caller who wants its verdict alone

@@ -1,5 +1,5 @@
--- An image cleared word by word is the fresh one. Assumes nothing.
-use Prim.Native.Nat.{ℕ, suc, _+_, _≤_, _<_}
+-- An image cleared word by word, and then as it is stored, is the fresh one. Assumes nothing.
+use Prim.Native.Nat.{ℕ, suc, _+_, _*_, _≤_, _<_}
 use mathlib.Core.Path.{_≡_, sym, ap, ap₂, _∙_}
 use mathlib.Core.List.{List, _++_, append-nil}
 use native.Mathlib.Numerals.{add-one}
@@ -8,9 +8,12 @@ use lib.ListN.{length, getD, drop, set, replicate, length-append, length-drop, l
 use lib.Seq.{drop-cons, drop-length, append-snoc, set-at}
 use Rattle.ground.proofs.Choices.{refused-kept}
 use Rattle.layout.specs.declared.Layout.{Layout}
+use Rattle.layout.specs.Layout.{rowsOf, blocks}
 use Rattle.layout.specs.Refusal.{imageRefusal}
 use Rattle.layout.proofs.Ladder.{image-exact}
-use Rattle.store.specs.Fresh.{freshImage, freshAfter, Clears}
+use Rattle.stored.specs.Stored.{complementedImage, ComplementsImage}
+use Rattle.store.specs.Fresh.{freshAfter, Clears}
+use Rattle.store.proofs.FreshBlocks.{fresh-stored}
 
 -- the image with its first words cleared
 abbrev pub cleared : ℕ → List ℕ → List ℕ
@@ -37,11 +40,16 @@ module _ (image : List ℕ) (layout : Layout) (number : ℕ) (checked : number �
   unfolding freshAfter
   fresh-refused ne = record { answers = checked; leaves = rw (← checked) (sym (refused-kept number _ image ne)) }
 
-  pub fresh-made : number ≡ 0 → (after : List ℕ) (k : ℕ) → k ≡ length image → after ≡ cleared k image → Clears image layout 0 after
-  unfolding freshAfter freshImage
-  fresh-made passed after k whole e =
+  pub fresh-made : number ≡ 0 → (zeros after : List ℕ) (k : ℕ) → k ≡ length image → zeros ≡ cleared k image → ComplementsImage zeros layout after
+      → Clears image layout 0 after
+  unfolding freshAfter
+  fresh-made passed zeros after k whole e complements =
       let none = sym checked ∙ passed in
+      let words = rowsOf layout * blocks layout in
+      let all : zeros ≡ replicate words 0 = e ∙ cleared-all image k whole ∙ ap (λ (n : ℕ). replicate n 0) (image-exact layout (length image) none) in
+      let size : length zeros ≡ length image = ap length e ∙ length-cleared image k (omega arith) in
+      let fits : imageRefusal (length zeros) layout ≡ 0 = rw size none in
       record {
         answers = sym none;
-        leaves = rw none (e ∙ cleared-all image k whole ∙ ap (λ (n : ℕ). replicate n 0) (image-exact layout (length image) none));
+        leaves = rw none (complements ∙ rw fits (ap (complementedImage layout) all ∙ fresh-stored layout));
       }

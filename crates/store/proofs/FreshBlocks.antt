@@ -1,11 +1,15 @@
 -- Every block of the fresh image is the valid block for zero data. Assumes nothing.
 use Prim.Native.Nat.{ℕ, zero, suc, _*_, _≤_, _<_}
-use mathlib.Core.Path.{_≡_, refl, sym, _∙_}
+use mathlib.Core.Path.{_≡_, refl, sym, ap, _∙_}
 use mathlib.Core.List.{List}
+use mathlib.Core.Logic.{⊎-elim}
 use native.Mathlib.Omega.{arith}
-use lib.ListN.{length, getD, replicate, length-replicate}
+use lib.Bits.{bitXor, xor-self}
+use lib.ListN.{length, getD, replicate, length-replicate, List·getD-eq-default}
 use lib.Pow.{pow-pos}
-use Rattle.ground.proofs.Lists.{zeros-at, list-is}
+use Rattle.ground.specs.Lists.{listOf}
+use Rattle.ground.proofs.Lists.{zeros-at, length-listOf, getD-listOf, list-is, listOf-same}
+use Rattle.lane.proofs.Rows.{split-below}
 use Rattle.shape.specs.declared.Shape.{Shape}
 use Rattle.shape.specs.Shape.{before, rows, words}
 use Rattle.sums.specs.Words.{row}
@@ -13,9 +17,14 @@ use Rattle.block.specs.Block.{validBlock, dataOf, SameRows, Fitting}
 use Rattle.block.proofs.Data.{dataRow, entry-row}
 use Rattle.block.proofs.ValidBlocks.{valid-only, zero-valid}
 use Rattle.layout.specs.declared.Layout.{Layout}
-use Rattle.layout.specs.Layout.{shapeOf, rowsOf, wordsOf, blocks, index}
+use Rattle.layout.specs.Layout.{shapeOf, rowsOf, wordsOf, blocks, index, rowAt}
+use Rattle.layout.specs.Refusal.{layoutRefusal}
+use Rattle.layout.proofs.Index.{in-range, row-of}
+use Rattle.layout.proofs.Ladder.{geometry}
+use Rattle.stored.specs.Stored.{mask, complementedIn, complementedImage}
+use Rattle.stored.proofs.Forms.{mask-fits}
 use Rattle.store.specs.Image.{gathered}
-use Rattle.store.specs.Fresh.{freshImage}
+use Rattle.store.specs.Fresh.{freshWord, freshImage}
 use Rattle.store.proofs.Image.{gathered-row, gathered-words}
 
 pub zeros-fit : (n : ℕ) → Fitting (replicate n 0)
@@ -45,18 +54,39 @@ module _ (shape : Shape) (block : List ℕ) (fits : Fitting block) (none : (j : 
 module _ (layout : Layout) where
   pub length-fresh : length (freshImage layout) ≡ rowsOf layout * blocks layout
   unfolding freshImage
-  length-fresh = length-replicate (rowsOf layout * blocks layout) 0
+  length-fresh = length-listOf (rowsOf layout * blocks layout) (freshWord layout)
+
+  -- a fresh image is that of zeros, as it is stored
+  pub fresh-stored : complementedImage layout (replicate (rowsOf layout * blocks layout) 0) ≡ freshImage layout
+  unfolding complementedImage freshImage
+  fresh-stored =
+      let words = rowsOf layout * blocks layout in
+      let zeros : List ℕ = replicate words 0 in
+      let size : length zeros ≡ words = length-replicate words 0 in
+      ap (λ (n : ℕ). listOf n (λ at. complementedIn (rowAt layout at) (getD zeros at 0))) size
+      ∙ listOf-same words _ (freshWord layout) (λ at h. ap (complementedIn (rowAt layout at)) (zeros-at words at))
 
   pub fresh-words : Fitting (freshImage layout)
   unfolding freshImage
-  fresh-words = zeros-fit (rowsOf layout * blocks layout)
+  fresh-words k =
+      ⊎-elim (λ l. rw (getD-listOf (rowsOf layout * blocks layout) (freshWord layout) k l) (mask-fits (rowAt layout k)))
+      (λ l. rw (List·getD-eq-default (freshImage layout) 0 {n = k} (rw length-fresh l)) (pow-pos 32))
+      (split-below k (rowsOf layout * blocks layout))
 
-  fresh-word : (k : ℕ) → getD (freshImage layout) k 0 ≡ 0
-  unfolding freshImage
-  fresh-word k = zeros-at (rowsOf layout * blocks layout) k
+  -- a row of a block of it, as the code has it, is zero
+  module _ (accepted : layoutRefusal layout ≡ 0) (block : ℕ) (inside : block < blocks layout) where
+    fresh-row : (j : ℕ) → j < rowsOf layout → getD (gathered layout block (freshImage layout)) j 0 ≡ 0
+    unfolding freshImage
+    fresh-row j h =
+        let first = geometry layout accepted .s-first in
+        let row : rowAt layout (index layout block (suc j)) ≡ suc j = ap suc (row-of (rowsOf layout) (layout .s) first block j h) in
+        gathered-row layout block (freshImage layout) j h
+        ∙ ap (complementedIn (suc j))
+        (getD-listOf (rowsOf layout * blocks layout) (freshWord layout) (index layout block (suc j))
+        (in-range (rowsOf layout) (layout .s) first (layout .g) block (suc j) inside (omega arith) h)
+        ∙ ap mask row)
+        ∙ xor-self (mask (suc j))
 
-  pub fresh-block
-      : (block : ℕ) → SameRows (shapeOf layout) (gathered layout block (freshImage layout)) (validBlock (shapeOf layout) (replicate (wordsOf layout) 0))
-  fresh-block block =
-      zeros-block (shapeOf layout) (gathered layout block (freshImage layout)) (gathered-words layout block (freshImage layout) fresh-words)
-      (λ j h. gathered-row layout block (freshImage layout) j h ∙ fresh-word (index layout block (suc j)))
+    pub fresh-block : SameRows (shapeOf layout) (gathered layout block (freshImage layout)) (validBlock (shapeOf layout) (replicate (wordsOf layout) 0))
+    fresh-block =
+        zeros-block (shapeOf layout) (gathered layout block (freshImage layout)) (gathered-words layout block (freshImage layout) fresh-words) fresh-row

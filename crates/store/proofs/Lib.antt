@@ -1,6 +1,8 @@
 pub mod Ladder
 pub mod Located
 pub mod Image
+pub mod StoredBlocks
+pub mod StoredImages
 pub mod Rows
 pub mod Turns
 pub mod Strides

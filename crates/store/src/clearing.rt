@@ -12,5 +12,6 @@ pub fn fresh(image: &mut [u32], layout: Layout) -> u32
     for i in 0..image.len() {
         image[i] = 0;
     }
+    stored::complement_image(image, layout);
     0
 }

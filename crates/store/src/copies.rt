@@ -1,10 +1,12 @@
-// A block's rows between the image and an array: gathered, and scattered. Neighbours are copied many at a time, others four a turn.
+// A block's rows between the image, where they are stored words, and an array, where they are the code's: gathered, and scattered.
+// Neighbours are copied many at a time, others four a turn.
 // A shared image is lent on as `&*image`, which the compiler then passes in registers (docs/SPEED.md).
 ghost use mathlib.Core.Path.{_≡_};
 ghost use Prim.Native.Nat.{_+_, _%_, _≤_, _<_};
 ghost use lib.ListN.{length};
 ghost use Rattle.shape.specs.Shape.{mostRows, rows};
-ghost use Rattle.store.specs.Inner.{Inside, FourInside, fourCopied, strideRead, strideWrite};
+ghost use Rattle.stored.specs.Stored.{complemented};
+ghost use Rattle.store.specs.Inner.{Inside, FourInside, fourCopied, strideRead, strideWrite, put};
 use shape::MOST_ROWS;
 use shape::Shape;
 use shape::rows;
@@ -79,10 +81,10 @@ fn put_apart(image: &mut [u32], rows: usize, at: usize, s: usize, block: &[u32; 
     }
 }
 
-// The rows of the block whose first row is at `at`, into the first of the block.
+// The rows of the block whose first row is at `at`, as the code has them, into the first of the block.
 pub(crate) fn gather(image: &[u32], shape: Shape, at: usize, s: usize, block: &mut [u32; MOST_ROWS])
     requires { ⌜ Inside (length (now image)) (rows shape) at s ⌝ }
-    ensures { λ r. ⌜ now (block .exit) ≡ strideRead (now (image .entry)) at s (now (block .entry)) (rows shape) ⌝ }
+    ensures { λ r. ⌜ now (block .exit) ≡ complemented (strideRead (now (image .entry)) at s (now (block .entry)) (rows shape)) ⌝ }
 {
     let count = rows(shape);
     if s == 1 {
@@ -90,19 +92,21 @@ pub(crate) fn gather(image: &[u32], shape: Shape, at: usize, s: usize, block: &m
     } else {
         take_apart(&*image, count, at, s, block);
     }
+    stored::complement_block(block);
 }
 
-// The block put where its first row is at `at`.
+// The code's block put where its first row is at `at`; the array holds the stored words then.
 pub(crate) fn scatter(
     image: &mut [u32],
     shape: Shape,
     at: usize,
     s: usize,
-    block: &[u32; MOST_ROWS],
+    block: &mut [u32; MOST_ROWS],
 )
     requires { ⌜ Inside (length (now image)) (rows shape) at s ⌝ }
-    ensures { λ r. ⌜ now (image .exit) ≡ strideWrite (now (image .entry)) at s (now (block .entry)) (rows shape) ⌝ }
+    ensures { λ r. ⌜ now (image .exit) ≡ put shape (now (image .entry)) at s (now (block .entry)) ⌝ }
 {
+    stored::complement_block(block);
     let count = rows(shape);
     if s == 1 {
         put_beside(image, count, at, block);

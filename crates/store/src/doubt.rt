@@ -6,7 +6,7 @@ ghost use Rattle.ground.specs.Choice.{ifZero};
 ghost use Rattle.block.specs.Block.{blank, lanesLost, mendedLanes};
 ghost use Rattle.block.specs.Verdict.{verdictOf};
 ghost use Rattle.sums.specs.Sums.{sumsOf};
-ghost use Rattle.store.specs.Inner.{Inside, strideRead};
+ghost use Rattle.store.specs.Inner.{Inside, taken};
 use super::copies::gather;
 use block::Verdict;
 use shape::MOST_ROWS;
@@ -22,11 +22,11 @@ pub(crate) fn in_doubt(
     sums: &[u32; SUM_WORDS],
     mended: &mut [u32; MOST_ROWS],
 ) -> Verdict
-    requires { ⌜ Inside (length (now image)) (rows shape) at s × (now sums ≡ sumsOf shape (strideRead (now image) at s blank (rows shape)))
+    requires { ⌜ Inside (length (now image)) (rows shape) at s × (now sums ≡ sumsOf shape (taken shape (now image) at s))
         × (now mended ≡ blank) ⌝ }
-    ensures verdict { λ r. ⌜ r ≡ verdictOf shape (strideRead (now (image .entry)) at s blank (rows shape)) ⌝ }
-    ensures mended { λ r. ⌜ now (mended .exit) ≡ ifZero (lanesLost shape (strideRead (now (image .entry)) at s blank (rows shape)))
-        (mendedLanes shape (strideRead (now (image .entry)) at s blank (rows shape))) blank ⌝ }
+    ensures verdict { λ r. ⌜ r ≡ verdictOf shape (taken shape (now (image .entry)) at s) ⌝ }
+    ensures mended { λ r. ⌜ now (mended .exit) ≡ ifZero (lanesLost shape (taken shape (now (image .entry)) at s))
+        (mendedLanes shape (taken shape (now (image .entry)) at s)) blank ⌝ }
 {
     let verdict = block::decide(shape, sums);
     if let Verdict::Lost(_, _) = verdict {

@@ -5,7 +5,7 @@ ghost use Rattle.shape.specs.Shape.{rows};
 ghost use Rattle.block.specs.Block.{blank, mendedBlock};
 ghost use Rattle.block.specs.Verdict.{verdictOf};
 ghost use Rattle.sums.specs.Sums.{sumsOf};
-ghost use Rattle.store.specs.Inner.{Inside, strideRead, strideWrite};
+ghost use Rattle.store.specs.Inner.{Inside, taken, put};
 ghost use Rattle.store.specs.Visit.{Visits, VisitsAccepted};
 use super::Answer;
 use super::copies::scatter;
@@ -25,15 +25,15 @@ fn mend_in_place(
     s: u32,
     sums: &[u32; SUM_WORDS],
 ) -> Verdict
-    requires { ⌜ Inside (length (now image)) (rows shape) at s × (now sums ≡ sumsOf shape (strideRead (now image) at s blank (rows shape))) ⌝ }
-    ensures verdict { λ r. ⌜ r ≡ verdictOf shape (strideRead (now (image .entry)) at s blank (rows shape)) ⌝ }
+    requires { ⌜ Inside (length (now image)) (rows shape) at s × (now sums ≡ sumsOf shape (taken shape (now image) at s)) ⌝ }
+    ensures verdict { λ r. ⌜ r ≡ verdictOf shape (taken shape (now (image .entry)) at s) ⌝ }
     ensures after { λ r. ⌜ now (image .exit) ≡
-        strideWrite (now (image .entry)) at s (mendedBlock shape (strideRead (now (image .entry)) at s blank (rows shape))) (rows shape) ⌝ }
+        put shape (now (image .entry)) at s (mendedBlock shape (taken shape (now (image .entry)) at s)) ⌝ }
 {
     let mut rows = [0u32; MOST_ROWS];
     let verdict = in_doubt(&*image, shape, at, s, sums, &mut rows);
     if let Verdict::Mended(_) = verdict {
-        scatter(image, shape, at, s as usize, &rows);
+        scatter(image, shape, at, s as usize, &mut rows);
         return verdict;
     }
     verdict

@@ -14,8 +14,8 @@ pub fn write(image: &mut [u32], layout: Layout, block: u32, list: &[u32]) -> Ans
             if list.len() != shape::words(shape) {
                 return Answer::Refused(7);
             }
-            let valid = block::encode(shape, list);
-            scatter(image, shape, at, layout.s as usize, &valid);
+            let mut valid = block::encode(shape, list);
+            scatter(image, shape, at, layout.s as usize, &mut valid);
             Answer::Stored
         }
     }

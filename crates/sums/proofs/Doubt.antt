@@ -19,6 +19,7 @@ use Rattle.ground.proofs.Lists.{getD-listOf}
 use Rattle.shape.specs.declared.Shape.{Shape}
 use Rattle.shape.specs.Shape.{before, rows}
 use Rattle.shape.proofs.Sizes.{before-small}
+use Rattle.stored.specs.Stored.{complemented}
 use Rattle.sums.specs.Words.{lane, number, word}
 use Rattle.sums.specs.Sums.{lying, sumsOf, doubtful, Looks, sumIn, oddIn}
 use Rattle.sums.specs.Inner.{anyOf, Kept}
@@ -75,10 +76,10 @@ module _ (shape : Shape) (block : List ℕ) where
 
 -- eight words that are the sums, and kept, are what a look is to find
 pub looks : (shape : Shape) (words : List ℕ) (at s : ℕ) (lent after : List ℕ) (found : ℕ) → at + before shape * s < length words
-    → (eight : List ℕ) → eight ≡ sumsOf shape (lying shape words at s) → Kept eight found lent after → Looks shape words at s lent found after
+    → (eight : List ℕ) → eight ≡ sumsOf shape (complemented (lying shape words at s)) → Kept eight found lent after → Looks shape words at s lent found after
 looks shape words at s lent after found there eight are k =
     record {
-      there = λ h. (k .0 ∙ ap (anyOf 8) are ∙ some-doubt shape (lying shape words at s), k .1 ∙ ap (ifZero found lent) are);
+      there = λ h. (k .0 ∙ ap (anyOf 8) are ∙ some-doubt shape (complemented (lying shape words at s)), k .1 ∙ ap (ifZero found lent) are);
       missing = λ no. absurd (no there);
     }
 

@@ -2,12 +2,13 @@
 use Prim.Native.Nat.{ℕ, zero, suc, _+_, _*_, _^_, _≤_, _<_}
 use mathlib.Core.Path.{_≡_, sym}
 use mathlib.Core.List.{List}
+use native.Mathlib.Nat.{le-refl}
 use native.Mathlib.Omega.{arith}
-use lib.ListN.{getD}
+use lib.ListN.{length, getD}
 use lib.Pow.{pow-pos}
 use Rattle.shape.specs.declared.Shape.{Shape}
 use Rattle.shape.specs.Shape.{rows}
-use Rattle.ground.proofs.Lists.{getD-listOf}
+use Rattle.ground.proofs.Lists.{length-listOf, getD-listOf}
 use Rattle.sums.specs.Words.{row}
 use Rattle.sums.specs.Sums.{lying}
 
@@ -24,3 +25,8 @@ pub placed-lies : (shape : Shape) (words : List ℕ) (at s p : ℕ) → 1 ≤ p 
 unfolding lying
 placed-lies shape words at s zero f l = absurd (omega arith)
 placed-lies shape words at s (suc k) f l = sym (getD-listOf (rows shape) (λ k. getD words (at + k * s) 0) k l)
+
+-- the rows of either shape lie there
+pub length-lying : (shape : Shape) (words : List ℕ) (at s : ℕ) → rows shape ≤ length (lying shape words at s)
+unfolding lying
+length-lying shape words at s = rw (length-listOf (rows shape) (λ k. getD words (at + k * s) 0)) (le-refl (rows shape))

@@ -9,6 +9,7 @@ use Rattle.lane.specs.Bit.{pick}
 use Rattle.shape.specs.declared.Shape.{Shape}
 use Rattle.shape.specs.declared.Shape.the-variants.{One, Two}
 use Rattle.ground.specs.Choice.{ifZero}
+use Rattle.stored.specs.Stored.{ones}
 use Rattle.sums.specs.declared.Running.{Running}
 use Rattle.sums.specs.declared.Column.{Column}
 use Rattle.sums.specs.declared.Endings.{Endings}
@@ -29,11 +30,12 @@ Kept sums found lent after = (found ≡ anyOf 8 sums) × (after ≡ ifZero found
 
 -- ---- the rows in groups of four
 
--- the eight words, from the rows by how they end, digit 2, and digits 3 to 6
+-- the eight words of the code's block, from stored rows by how they end, digit 2, and digits 3 to 6: rows 1 and 2, which are stored complemented,
+-- have in every lane the sum 3 and no parity
 abbrev pub eightOf : Endings → ℕ → List ℕ → List ℕ
 eightOf ends d2 high =
     let d0 : ℕ = bitXor (ends .e01) (ends .e11) in
-    d0 ∷ bitXor (ends .e10) (ends .e11) ∷ d2 ∷ getD high 0 0 ∷ getD high 1 0 ∷ getD high 2 0 ∷ getD high 3 0
+    bitXor d0 ones ∷ bitXor (bitXor (ends .e10) (ends .e11)) ones ∷ d2 ∷ getD high 0 0 ∷ getD high 1 0 ∷ getD high 2 0 ∷ getD high 3 0
     ∷ bitXor (bitXor d0 (ends .e00)) (ends .e10) ∷ []
 
 -- digits 3 to 6 of the sums, from the words of rows 1 to 4 q + 3 for each q: shape 1 has no row with one of the last three

@@ -11,6 +11,7 @@ use Rattle.ground.specs.Choice.{ifZero}
 use Rattle.ground.specs.Lists.{listOf}
 use Rattle.shape.specs.declared.Shape.{Shape}
 use Rattle.shape.specs.Shape.{before, rows}
+use Rattle.stored.specs.Stored.{complemented}
 use Rattle.sums.specs.Words.{lane, number, word}
 
 -- the rows of a block that lies in words: row 1 at `at`, each row s after the one before
@@ -27,11 +28,12 @@ sumsOf shape block =
 unfoldable pub doubtful : Shape → List ℕ → ℕ
 doubtful shape block = word (λ i. not (eqb (sum (before shape) (lane i block)) 0) || odd (rows shape) (lane i block))
 
--- the promise of look, and of beside for shape 2 with its rows neighbours: the lanes that are not valid, and the sums where there is such a lane
--- 1, and nothing kept, where a row is missing
+-- the promise of look, and of beside for shape 2 with its rows neighbours, of stored words: the lanes of the code's block that are not valid, and
+-- its sums where there is such a lane; 1, and nothing kept, where a row is missing
 pub record Looks (shape : Shape) (words : List ℕ) (at s : ℕ) (lent : List ℕ) (found : ℕ) (after : List ℕ) : Type 0 where
   pub there : at + before shape * s < length words
-      → (found ≡ doubtful shape (lying shape words at s)) × (after ≡ ifZero found lent (sumsOf shape (lying shape words at s)))
+      → (found ≡ doubtful shape (complemented (lying shape words at s)))
+      × (after ≡ ifZero found lent (sumsOf shape (complemented (lying shape words at s))))
   pub missing : (at + before shape * s < length words → ⊥) → (found ≡ 1) × (after ≡ lent)
 
 -- lane i's sum and its parity in eight words, whichever they are

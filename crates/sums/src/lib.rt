@@ -1,15 +1,17 @@
-// The sums and the parities of 32 lanes at once, worked out over the words where they lie.
+// The sums and the parities of 32 lanes at once, worked out over stored words where they lie.
 // A block is rows 1 to 3, groups of four rows, and the last: the columns give the last two binary digits of a row's number, the groups those before.
 ghost use mathlib.Core.Path.{_≡_};
 ghost use Prim.Native.Nat.{_+_, _<_};
 ghost use lib.ListN.{length, getD, set};
 ghost use Rattle.shape.specs.declared.Shape.the-variants.{Two};
 ghost use Rattle.ground.specs.Stores.{stores};
+ghost use Rattle.stored.specs.Stored.{complemented};
 ghost use Rattle.sums.specs.Sums.{lying, sumsOf, Looks};
 ghost use Rattle.sums.specs.Inner.{Kept, eightOf, highDigits, threeOf, fourOf, columnFrom, columnOf, inColumn, laid, tabled, endingsOf, acrossOf};
 use shape::Shape;
 use shape::rows;
 use shape::rows_before;
+use stored::ONES;
 
 // How many binary digits a lane's sum has.
 pub const DIGITS: usize = 7;
@@ -38,7 +40,8 @@ struct Endings {
     e11: u32,
 }
 
-// The eight words, from the rows by how they end, digit 2, and digits 3 to 6; kept where one is set.
+// The eight words of the code's block, from stored rows by how they end, digit 2, and digits 3 to 6; kept where one is set.
+// Rows 1 and 2 are stored complemented: that changes digits 0 and 1 of every sum, and no parity.
 fn eight(ends: Endings, d2: u32, high: [u32; 4], sums: &mut [u32; SUM_WORDS]) -> u32
     ensures { λ r. ⌜ Kept (eightOf ends d2 high) r (now (sums .entry)) (now (sums .exit)) ⌝ }
 {
@@ -46,8 +49,8 @@ fn eight(ends: Endings, d2: u32, high: [u32; 4], sums: &mut [u32; SUM_WORDS]) ->
     let d1 = ends.e10 ^ ends.e11;
     keep(
         [
-            d0,
-            d1,
+            d0 ^ ONES,
+            d1 ^ ONES,
             d2,
             high[0],
             high[1],
@@ -241,7 +244,7 @@ fn with_ends(words: &[u32], at: usize, all: &[u32; 4]) -> Endings
 // The sums of a block of shape 2 whose rows are neighbours, and all there.
 fn sums_beside(words: &[u32], at: usize, sums: &mut [u32; SUM_WORDS]) -> u32
     requires { ⌜ at + 71 < length (now words) ⌝ }
-    ensures { λ r. ⌜ Kept (sumsOf Two (lying Two (now (words .entry)) at 1)) r (now (sums .entry)) (now (sums .exit)) ⌝ }
+    ensures { λ r. ⌜ Kept (sumsOf Two (complemented (lying Two (now (words .entry)) at 1))) r (now (sums .entry)) (now (sums .exit)) ⌝ }
 {
     let mut table = [0u32; 16];
     let mut top = [0u32; 4];

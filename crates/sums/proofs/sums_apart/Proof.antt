@@ -5,6 +5,8 @@ use native.Mathlib.Omega.{arith}
 use lib.ListN.{length}
 use borrow.Author.Needs.{needs}
 use Rattle.shape.specs.Shape.{before, rows}
+use Rattle.sums.proofs.StoredSums.{code-sums}
+use Rattle.sums.proofs.Lying.{length-lying}
 use Rattle.sums.proofs.Apart.{Turned, few-turns, none-turned, turn-more, apart-sums, within, before-few}
 use Rattle.sums.proofs.Doubt.{looks, misses}
 use Rattle.sums.proofs.sums_apart.Statement.{statement}
@@ -55,7 +57,8 @@ returns-2 c =
     let last : loop .q ≡ rows (args .shape) / 4 = omega (arith, loop .inv .0, loop .inv .1) in
     let are = apart-sums (λ k. omega (arith, entered-there .before .before .shared-slice-known .given k)) (args .shape) last (loop .inv .2)
     (c .before .before .high-digits .ensures) in
-    looks (args .shape) (args .words .now) (args .at) (args .s) (args .sums .now) _ _ (room entered-there) _ are (c .eight .ensures)
+    looks (args .shape) (args .words .now) (args .at) (args .s) (args .sums .now) _ _ (room entered-there) _
+    (code-sums (args .shape) _ (length-lying (args .shape) (args .words .now) (args .at) (args .s)) are) (c .eight .ensures)
 
 pub sums-apart-spec : {M : Type 1} → statement M
 sums-apart-spec =

@@ -5,7 +5,9 @@ use borrow.Author.Needs.{needs}
 use Rattle.file.specs.declared.Header.the-variants.{Image}
 use Rattle.file.specs.Header.{headerOf}
 use Rattle.file.proofs.Headers.{header-is}
-use Rattle.file.proofs.FileReads.{reads-refused, reads-other, reads-words}
+use Rattle.file.proofs.FileReads.{reads-refused, reads-other, reads-words, reads-old}
+use Rattle.file.proofs.Ladder.{accepted}
+use Rattle.file.proofs.Layouts.{header-layout}
 use Rattle.file.proofs.reading.read_file.Statement.{statement}
 use Rattle.file.proofs.reading.read_file.Tie as tie
 
@@ -38,17 +40,33 @@ returns c = reads-other _ _ _ (header (c .before)) (λ e. omega (arith, c .if1 .
 read-words-requires : tie.Need-read-words-requires
 read-words-requires c κs = search needs
 
+shared-slice-read-if2 : tie.Need-shared-slice-read-if2
+shared-slice-read-if2 c =
+    let known = header (c .before .before .before .before .before .before) in
+    omega (arith, accepted _ (header-layout _ _ known .0) .frame .least)
+
 returns-2 : tie.Need-returns-2
 returns-2 c = reads-refused _ _ _ (sym (header-is _ _ (c .before .before .before .read-header .ensures)) ∙ c .before .number .given .1)
 
 same-length : tie.Need-same-length
-same-length c = search needs
+same-length c = c .before .before .complement-image .kept .0 ∙ c .before .before .before .before .before .before .before .before .read-words .kept .1 .0
 
 returns-3 : tie.Need-returns-3
 returns-3 c =
-    let copied = c .before .before in
+    let copied = c .before .before .before .before .before .before .before .before in
     let same = copied .before .before in
-    reads-words _ _ _ (header (same .before)) _ (omega (arith, same .if1 .left, same .before .word-count .ensures)) (copied .read-words .ensures)
+    reads-old _ _ _ (header (same .before)) (omega (arith, same .if1 .left, same .before .word-count .ensures)) _ (copied .read-words .ensures)
+    (c .before .before .before .before .if2 .taken) _ (c .before .before .complement-image .ensures)
+
+same-length-2 : tie.Need-same-length-2
+same-length-2 c = c .before .before .before .before .read-words .kept .1 .0
+
+returns-4 : tie.Need-returns-4
+returns-4 c =
+    let copied = c .before .before .before .before in
+    let same = copied .before .before in
+    reads-words _ _ _ (header (same .before)) (omega (arith, same .if1 .left, same .before .word-count .ensures)) _ (copied .read-words .ensures)
+    (c .if2 .left)
 
 pub read-file-spec : {M : Type 1} → statement M
 read-file-spec =
@@ -60,6 +78,10 @@ read-file-spec =
     word-count-requires
     returns
     read-words-requires
+    shared-slice-read-if2
+    (λ c κs. search needs)
     returns-2
     same-length
-    returns-3)
+    returns-3
+    same-length-2
+    returns-4)

@@ -6,7 +6,8 @@ use native.Mathlib.Numerals.{add-one}
 use borrow.Author.Needs.{needs}
 use lib.ListN.{length, length-set}
 use Rattle.ground.specs.Stores.{stores}
-use Rattle.file.specs.Bytes.{wordCount, wordIn, wordsInto}
+use Rattle.file.specs.Bytes.{wordCount, wordIn}
+use Rattle.file.specs.Inner.{wordsInto}
 use Rattle.file.proofs.reading.read_words.Statement.{statement}
 use Rattle.file.proofs.reading.read_words.Tie as tie
 

@@ -20,22 +20,26 @@ returns-3 : tie.Need-returns-3
 unfolding frameRefusal
 returns-3 c = search tests
 
+returns-4 : tie.Need-returns-4
+unfolding frameRefusal
+returns-4 c = search tests
+
 word-at-requires : tie.Need-word-at-requires
 word-at-requires c κs = search needs
 
 cast-field : tie.Need-cast-field
 cast-field c = search needs
 
-sub-if4 : tie.Need-sub-if4
-sub-if4 c = search needs
-
-returns-4 : tie.Need-returns-4
-unfolding frameRefusal
-returns-4 c = rw (← c .before .word-at .ensures) (search tests)
+sub-if5 : tie.Need-sub-if5
+sub-if5 c = search needs
 
 returns-5 : tie.Need-returns-5
 unfolding frameRefusal
 returns-5 c = rw (← c .before .word-at .ensures) (search tests)
+
+returns-6 : tie.Need-returns-6
+unfolding frameRefusal
+returns-6 c = rw (← c .before .word-at .ensures) (search tests)
 
 pub check-frame-spec : {M : Type 1} → statement M
 check-frame-spec =
@@ -45,8 +49,9 @@ check-frame-spec =
     returns-2
     shared-slice-read-version
     returns-3
+    returns-4
     word-at-requires
     cast-field
-    sub-if4
-    returns-4
-    returns-5)
+    sub-if5
+    returns-5
+    returns-6)

@@ -17,7 +17,7 @@ start c = c .before .before .before .before .before .before .before .before .bef
 put : (c : tie.After-slice-known3)
     → c .before .before .put-word2 .last .1 .0
     ≡ withWord (start c .args .layout .shape * 16777216 + start c .args .layout .s * 65536 + start c .args .layout .g)
-    (withWord (4 + 4 * start c .args .words) (set (start c .args .bytes .now) 0 1) 1)
+    (withWord (4 + 4 * start c .args .words) (set (start c .args .bytes .now) 0 2) 1)
     5
 put c =
     c .before .before .put-word2 .ensures

@@ -28,8 +28,8 @@ abbrev Inv-loop : tie.InvT-loop
 Inv-loop image₀ layout out₀ n at₀ tally₀ k₀ image out at tally k =
     (k ≤ n)
     × (image ≡ visitedBelow image₀ layout k)
-    × (page out at ≡ writtenAll (blockLines image₀ layout k) (page out₀ at₀))
-    × (tally ≡ tallyBelow image₀ layout k)
+    × (page out at ≡ writtenAll (blockLines (verdictAt image₀ layout) k) (page out₀ at₀))
+    × (tally ≡ tallyBelow (verdictAt image₀ layout) k)
     × (length image ≡ length image₀)
     × (length out ≡ length out₀)
 
@@ -69,10 +69,10 @@ module _ (c : tie.Start Inv-loop μ-loop) where
   images = visitedBelow (c .args .image .now) (c .args .layout)
 
   abbrev lines : ℕ → List (List ℕ)
-  lines = blockLines (c .args .image .now) (c .args .layout)
+  lines = blockLines (verdictAt (c .args .image .now) (c .args .layout))
 
   abbrev tallies : ℕ → Tally
-  tallies = tallyBelow (c .args .image .now) (c .args .layout)
+  tallies = tallyBelow (verdictAt (c .args .image .now) (c .args .layout))
 
   abbrev many : ℕ
   many = blocks (c .args .layout)
@@ -179,13 +179,11 @@ returns c =
     let s = start at in
     let all : at .loop .k ≡ many s = omega (arith, ended c .loop-test .left, known at .blocks2 .ensures) in
     let layout = s .args .layout in
-    let first = ap (λ (n : ℕ). written (imageLine layout n) (page (s .args .out .now) 0)) (known at .blocks2 .ensures) in (
-      c .before .before .total-line .ensures
-          ∙ ap₂ written (ap totalLine (at .loop .inv .3 ∙ ap (tallies s) all))
-          (at .loop .inv .2 ∙ ap₂ writtenAll (ap (lines s) all) (at .before .before .before .image-line .ensures ∙ first))
-          ∙ sym (written-last (lines s (many s)) (totalLine (tallies s (many s))) _),
-      at .loop .inv .1 ∙ ap (images s) all,
-    )
+    let first = ap (λ (n : ℕ). written (imageLine layout n) (page (s .args .out .now) 0)) (known at .blocks2 .ensures) in
+    c .before .before .total-line .ensures
+    ∙ ap₂ written (ap totalLine (at .loop .inv .3 ∙ ap (tallies s) all))
+    (at .loop .inv .2 ∙ ap₂ writtenAll (ap (lines s) all) (at .before .before .before .image-line .ensures ∙ first))
+    ∙ sym (written-last (lines s (many s)) (totalLine (tallies s (many s))) _)
 
 pub report-image-spec : {M : Type 1} → statement M
 report-image-spec =

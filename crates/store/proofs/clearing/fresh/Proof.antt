@@ -9,10 +9,10 @@ use Rattle.store.proofs.clearing.fresh.Statement.{statement}
 use Rattle.store.proofs.clearing.fresh.Tie as tie
 
 abbrev Inv-loop : tie.InvT-loop
-Inv-loop image₀ number i₀ i-end image i = (i ≤ length image₀) × (i-end ≡ length image₀) × (image ≡ cleared i image₀)
+Inv-loop image₀ layout number i₀ i-end image i = (i ≤ length image₀) × (i-end ≡ length image₀) × (image ≡ cleared i image₀)
 
 abbrev μ-loop : tie.MeasureT-loop
-μ-loop image₀ number i₀ i-end image i = i-end - i
+μ-loop image₀ layout number i₀ i-end image i = i-end - i
 
 -- the image keeps its length
 long : (c : tie.At-loop Inv-loop μ-loop) → length (c .loop .image) ≡ length (c .before .before .before .before .args .image .now)
@@ -46,14 +46,19 @@ loop-again c = (
   ap (λ l. set l (c .before .loop .i) 0) (c .before .loop .inv .2) ∙ cleared-next _ (c .before .loop .i) (omega arith),
 )
 
+complement-image-requires : tie.Need-complement-image-requires Inv-loop μ-loop
+complement-image-requires c κs = search needs
+
 same-length : tie.Need-same-length Inv-loop μ-loop
-same-length c = long (c .before)
+same-length c = c .before .before .complement-image .kept .0 ∙ long (c .before .before .before .before .before)
 
 returns-2 : tie.Need-returns-2 Inv-loop μ-loop
 returns-2 c =
-    let checked = c .before .before in
-    let image = checked .before .before .before .args .image .now in
-    fresh-made image _ _ (checked .before .check-image .ensures) (checked .if1 .left) _ (c .before .loop .i) (omega arith) (c .before .loop .inv .2)
+    let looped = c .before .before .before .before .before in
+    let checked = looped .before in
+    let args = checked .before .before .before .args in
+    fresh-made (args .image .now) (args .layout) _ (checked .before .check-image .ensures) (checked .if1 .left) (looped .loop .image) _ (looped .loop .i)
+    (omega arith) (looped .loop .inv .2) (c .before .before .complement-image .ensures)
 
 pub fresh-spec : {M : Type 1} → statement M
 fresh-spec =
@@ -69,5 +74,6 @@ fresh-spec =
     add-i
     loop-less
     loop-again
+    complement-image-requires
     same-length
     returns-2)

@@ -9,7 +9,8 @@ use Rattle.shape.specs.Shape.{rows}
 use Rattle.block.specs.Block.{blank, lanesLost, mendedLanes}
 use Rattle.block.specs.Verdict.{verdictOf}
 use Rattle.block.proofs.Told.{lost-some, not-lost}
-use Rattle.store.specs.Inner.{strideRead}
+use Rattle.stored.specs.Stored.{complemented}
+use Rattle.store.specs.Inner.{strideRead, taken}
 use Rattle.store.proofs.Strides.{decided-there, mended-there}
 use Rattle.store.proofs.doubt.in_doubt.Statement.{statement}
 use Rattle.store.proofs.doubt.in_doubt.Tie as tie
@@ -20,7 +21,7 @@ module _ (c : tie.After-decide) where
 
   -- the rows that lie there
   abbrev found : List ℕ
-  found = strideRead (start .args .image .now) (start .args .at) (start .args .s) blank (rows (start .args .shape))
+  found = taken (start .args .shape) (start .args .image .now) (start .args .at) (start .args .s)
 
   says : c .decide .result ≡ verdictOf (start .args .shape) found
   says = decided-there (start .args .image .now) (start .args .shape) (start .args .at) (start .args .s) (start .pre .1) (c .decide .ensures)
@@ -40,7 +41,7 @@ returns-2 c =
     let args = start decided .args in
     let none = not-lost (args .shape) (found decided) _ (says decided) (kept .match .keys2) in
     let took = gathered .gather .ensures
-    ∙ ap (λ (lent : List ℕ). strideRead (args .image .now) (args .at) (args .s) lent (rows (args .shape))) (start decided .pre .2) in (
+    ∙ ap (λ (lent : List ℕ). complemented (strideRead (args .image .now) (args .at) (args .s) lent (rows (args .shape)))) (start decided .pre .2) in (
       says decided,
       mended-there (args .image .now) (args .shape) (args .at) (args .s) (start decided .pre .1) took (c .mend .ensures)
           ∙ sym (ap (λ (n : ℕ). ifZero n (mendedLanes (args .shape) (found decided)) blank) none),

@@ -1,0 +1,105 @@
+-- The report of a file of version 1 is that of its own words by the old rule. Assumes nothing.
+use Prim.Native.Nat.{ℕ, zero, suc, _≤_, _<_}
+use mathlib.Core.Path.{_≡_, refl, sym, ap, ap₂, _∙_}
+use mathlib.Core.List.{List, [], _∷_, _++_}
+use native.Mathlib.Omega.{arith}
+use lib.ListN.{length}
+use Rattle.shape.proofs.Sizes.{rows-fit}
+use Rattle.layout.specs.declared.Layout.{Layout}
+use Rattle.layout.specs.Layout.{shapeOf, rowsOf, blocks, index}
+use Rattle.layout.specs.Refusal.{imageRefusal}
+use Rattle.layout.proofs.Index.{in-range}
+use Rattle.layout.proofs.Ladder.{geometry, image-layout, image-exact, block-accepted}
+use Rattle.stored.specs.Stored.{complementedImage}
+use Rattle.stored.proofs.Forms.{length-image}
+use Rattle.block.specs.Block.{mendedBlock}
+use Rattle.block.specs.declared.Verdict.{Verdict}
+use Rattle.block.specs.Verdict.{verdictOf}
+use Rattle.block.proofs.Blocks.{length-mended}
+use Rattle.store.specs.Image.{storedRows, withRows, gathered, placed}
+use Rattle.store.specs.Visit.{visitAfter}
+use Rattle.store.proofs.Image.{length-rows}
+use Rattle.store.proofs.StoredImages.{gathered-complemented, placed-complemented}
+use Rattle.file.specs.Bytes.{versionIn, layoutIn, wordsIn, imageIn}
+use Rattle.file.proofs.Ladder.{header-image}
+use Rattle.file.proofs.Layouts.{length-words, words-layout}
+use Rattle.text.specs.Page.{endToEnd}
+use Rattle.report.specs.Lines.{counted}
+use Rattle.report.specs.Report.{visitedBelow, verdictAt, blockLines, tallyBelow, linesBy, imageReport}
+use Rattle.report.proofs.Visited.{length-visited}
+use Rattle.demands.specs.OldFiles.{oldVisit, oldVisited, oldVerdict, oldReport, OldPrinted}
+use Rattle.demands.proofs.Files.{file-in-order, accepted-lines}
+
+-- lines and tally are told by the verdicts below the number of blocks
+module _ (u v : ℕ → Verdict) where
+  blocks-same : (n : ℕ) → ((k : ℕ) → k < n → u k ≡ v k) → (blockLines u n ≡ blockLines v n) × (tallyBelow u n ≡ tallyBelow v n)
+  unfolding blockLines tallyBelow
+  blocks-same zero same = (refl, refl)
+  blocks-same (suc n) same =
+      let less = blocks-same n (λ k h. same k (omega arith)) in
+      let last = same n (omega arith) in
+      (rw (less .0, last), ap₂ counted last (less .1))
+
+  lines-same : (layout : Layout) → ((k : ℕ) → k < blocks layout → u k ≡ v k) → linesBy layout u ≡ linesBy layout v
+  lines-same layout same = let both = blocks-same (blocks layout) same in rw (both .0, both .1)
+
+module _ (words : List ℕ) (layout : Layout) (passed : imageRefusal (length words) layout ≡ 0) where
+  first : 1 ≤ layout .s
+  first = geometry layout (image-layout layout (length words) passed) .s-first
+
+  abbrev image : List ℕ
+  image = complementedImage layout words
+
+  image-passed : imageRefusal (length image) layout ≡ 0
+  image-passed = rw (length-image layout words) passed
+
+  abbrev old : ℕ → List ℕ
+  old = oldVisited words layout
+
+  inside : (n : ℕ) → n < blocks layout → length (old n) ≡ length words → (k : ℕ) → k < rowsOf layout → index layout n (suc k) < length (old n)
+  inside n h size k l =
+      rw (size, image-exact layout (length words) passed)
+      (in-range (rowsOf layout) (layout .s) first (layout .g) n (suc k) h (omega arith) l)
+
+  -- what is visited is the old words, as they are stored now
+  visited-as : (n : ℕ) → n ≤ blocks layout → visitedBelow image layout n ≡ complementedImage layout (old n)
+  unfolding visitedBelow oldVisited
+  visited-as zero h = refl
+  visited-as (suc n) h =
+      let same = visited-as n (omega arith) in
+      let size : length (old n) ≡ length words =
+      sym (length-image layout (old n)) ∙ sym (ap length same) ∙ length-visited image layout n ∙ length-image layout words in
+      let there = stays n (omega arith) size in
+      ap (λ (l : List ℕ). visitAfter l layout n) same ∙ there
+    where
+      -- one visit more
+      stays : (n : ℕ) → n < blocks layout → length (old n) ≡ length words
+          → visitAfter (complementedImage layout (old n)) layout n ≡ complementedImage layout (oldVisit (old n) layout n)
+      stays n h size =
+          unfold visitAfter oldVisit in
+          (let long : length (mendedBlock (shapeOf layout) (storedRows layout n (old n))) ≡ 72 =
+          length-mended (shapeOf layout) (storedRows layout n (old n)) ∙ length-rows layout n (old n) in
+          rw (length-image layout (old n), size, block-accepted layout (length words) n passed h, gathered-complemented layout first n (old n) (inside n h size))
+          (placed-complemented layout first n _ (old n) (omega (arith, long, rows-fit (shapeOf layout)))))
+
+  verdict-as : (n : ℕ) → n < blocks layout → verdictAt image layout n ≡ oldVerdict words layout n
+  unfolding verdictAt
+  verdict-as n h =
+      let same = visited-as n (omega arith) in
+      let size : length (old n) ≡ length words =
+      sym (length-image layout (old n)) ∙ sym (ap length same) ∙ length-visited image layout n ∙ length-image layout words in
+      ap (verdictOf (shapeOf layout)) (ap (gathered layout n) same ∙ gathered-complemented layout first n (old n) (inside n h size))
+
+  report-as : imageReport image layout ≡ oldReport words layout
+  unfolding imageReport
+  report-as = lines-same (verdictAt image layout) (oldVerdict words layout) layout verdict-as
+
+pub old-printed : OldPrinted
+old-printed bytes out end left version none i =
+    let accepted = file-in-order bytes .accepted .1 none in
+    let fits : imageRefusal (length (wordsIn bytes)) (layoutIn bytes) ≡ 0 =
+    rw (length-words bytes) (words-layout bytes (layoutIn bytes) (sym (header-image bytes accepted))) in
+    let held : imageIn bytes ≡ complementedImage (layoutIn bytes) (wordsIn bytes) = rw version in
+    i .whole
+    ∙ ap endToEnd
+    (accepted-lines bytes accepted ∙ ap (λ (image : List ℕ). imageReport image (layoutIn bytes)) held ∙ report-as (wordsIn bytes) (layoutIn bytes) fits)
