@@ -1,11 +1,13 @@
 /* The interface of include/foldgrebe.h in plain C: the library's calls as a C programmer would write them, the covered rows in lists.
    It is the measure for the library's speed, and a second body for tests/run to try its rig on.
 
-   A word is 32 lanes at once: the xor of the rows that one check row covers is that digit of the sum in every lane. */
+   A word is 32 lanes at once: the xor of the rows that one check row covers is that digit of the sum in every lane. Rows 1 and 2 are
+   stored complemented, so digits 0 and 1 of a valid block come out as ones; nothing else knows of it but format and version 1 files. */
 #include <string.h>
 #include "foldgrebe.h"
 
-enum { MOST_ROWS = 72, MOST_DATA = 64, MOST_DIGITS = 7, MOST_BLOCKS = 4096 };
+enum { MOST_ROWS = 72, MOST_DATA = 64, MOST_DIGITS = 7, MOST_BLOCKS = 4096, COMPLEMENTED_ROWS = 2 };
+static const uint32_t ONES = UINT32_MAX;
 
 #define INLINE static inline __attribute__((always_inline))
 
@@ -97,12 +99,12 @@ INLINE uint32_t covered(const uint32_t *row, const uint8_t *list, unsigned n)
     return x;
 }
 
-/* Digits 0 and 1 and the parities, from the rows by the last two binary digits of their numbers. */
+/* Digits 0 and 1 and the parities, from the stored rows by the last two binary digits of their numbers; the parity has both complements. */
 INLINE void look_low(findings *f, uint32_t end_00, uint32_t end_01, uint32_t end_10, uint32_t end_11)
 {
-    f->digit[0] = end_01 ^ end_11;
-    f->digit[1] = end_10 ^ end_11;
-    f->odd = f->digit[0] ^ end_00 ^ end_10;
+    f->digit[0] = end_01 ^ end_11 ^ ONES;
+    f->digit[1] = end_10 ^ end_11 ^ ONES;
+    f->odd = end_00 ^ end_01 ^ end_10 ^ end_11;
 }
 
 INLINE findings look_16(const uint32_t *row)
@@ -265,6 +267,10 @@ static uint32_t refuse_record(const uint32_t *record)
     return 0;
 }
 
+/* Rows 1 and 2 of the blocks of a group are its first words. */
+INLINE size_t group_words(uint32_t shape, uint32_t s) { return (size_t)rows_of(shape) * s; }
+INLINE size_t complemented_words(uint32_t s) { return (size_t)COMPLEMENTED_ROWS * s; }
+
 uint32_t foldgrebe_format(uint32_t *image, size_t words, uint32_t shape, uint32_t s, uint32_t g,
                           uint32_t record[FOLDGREBE_RECORD_WORDS])
 {
@@ -272,6 +278,8 @@ uint32_t foldgrebe_format(uint32_t *image, size_t words, uint32_t shape, uint32_
     memset(record, 0, FOLDGREBE_RECORD_WORDS * sizeof *record);
     if (number) return number;
     memset(image, 0, words * sizeof *image);
+    for (size_t at = 0; at < words; at += group_words(shape, s))
+        for (size_t k = 0; k < complemented_words(s); k++) image[at + k] = ONES;
     record[FOLDGREBE_RECORD_SHAPE] = shape, record[FOLDGREBE_RECORD_INTERLEAVE] = s, record[FOLDGREBE_RECORD_GROUPS] = g;
     return 0;
 }
@@ -291,7 +299,7 @@ uint32_t foldgrebe_read(const uint32_t *image, size_t words, uint32_t shape, uin
                         uint32_t *buffer, size_t buffer_words, uint32_t verdict[FOLDGREBE_VERDICT_WORDS])
 {
     uint32_t number = refuse_block(words, shape, s, g, block);
-    outcome o = { 0, 0 };
+    outcome o = { 0, 0, 0 };
     if (number == 0 && buffer_words != data_of(shape)) number = 7;
     if (number == 0) {
         const uint32_t *at = image + first_row(shape, s, block);
@@ -305,7 +313,7 @@ uint32_t foldgrebe_visit(uint32_t *image, size_t words, uint32_t shape, uint32_t
                          uint32_t verdict[FOLDGREBE_VERDICT_WORDS])
 {
     uint32_t number = refuse_block(words, shape, s, g, block);
-    outcome o = { 0, 0 };
+    outcome o = { 0, 0, 0 };
     if (number == 0) o = visit(image + first_row(shape, s, block), s, shape);
     put_verdict(verdict, o);
     return number;
@@ -357,6 +365,7 @@ uint32_t foldgrebe_turn(uint32_t record[FOLDGREBE_RECORD_WORDS], uint32_t *image
 
 /* A file's header: the version, the length field, which counts the bytes behind it, shape, s and G. */
 enum { VERSION = 0, FIELD = 1, FIELD_END = 5, FILE_SHAPE = 5, FILE_INTERLEAVE = 6, FILE_GROUPS = 7, HEADER = 9, BYTES = 4, AT_ONCE = 8 };
+enum { OLD_VERSION = 1, NEW_VERSION = 2 };
 
 /* A word whose bytes in memory are w's, highest first. Of four byte stores a word gcc 12 makes no swap but long vector code. */
 INLINE uint32_t highest_first(uint32_t w) { return __BYTE_ORDER__ == __ORDER_LITTLE_ENDIAN__ ? __builtin_bswap32(w) : w; }
@@ -389,11 +398,18 @@ static void take_words(uint32_t *restrict image, const uint8_t *restrict from, s
     }
 }
 
+/* Version 1 had no row complemented. */
+static void complement_rows(uint32_t *image, size_t words, uint32_t shape, uint32_t s)
+{
+    for (size_t at = 0; at < words; at += group_words(shape, s))
+        for (size_t k = 0; k < complemented_words(s); k++) image[at + k] ^= ONES;
+}
+
 static uint32_t refuse_file(const uint8_t *file, size_t bytes)
 {
     if (bytes > FOLDGREBE_FILE_BYTES) return 11;
     if (bytes < HEADER) return 10;
-    if (file[VERSION] != 1) return 9;
+    if (file[VERSION] != OLD_VERSION && file[VERSION] != NEW_VERSION) return 9;
     if (word_at(file + FIELD) != bytes - FIELD_END) return 10;
     uint32_t shape = file[FILE_SHAPE], s = file[FILE_INTERLEAVE], g = groups_at(file), number = refuse_layout(shape, s, g);
     if (number) return number;
@@ -418,7 +434,7 @@ uint32_t foldgrebe_file_write(const uint32_t *image, size_t words, uint32_t shap
     size_t length = HEADER + BYTES * words;
     if (length > FOLDGREBE_FILE_BYTES) return 11;
     if (bytes < length) return 12;
-    file[VERSION] = 1, put_word(file + FIELD, (uint32_t)(length - FIELD_END));
+    file[VERSION] = NEW_VERSION, put_word(file + FIELD, (uint32_t)(length - FIELD_END));
     file[FILE_SHAPE] = (uint8_t)shape, file[FILE_INTERLEAVE] = (uint8_t)s;
     file[FILE_GROUPS] = (uint8_t)(g >> 8), file[FILE_GROUPS + 1] = (uint8_t)g;
     put_words(file + HEADER, image, words);
@@ -436,5 +452,6 @@ uint32_t foldgrebe_file_read(const uint8_t *file, size_t bytes, uint32_t *image,
     uint32_t number = refuse_file(file, bytes);
     if (number == 0 && words != (bytes - HEADER) / BYTES) number = 4;
     if (number == 0) take_words(image, file + HEADER, words);
+    if (number == 0 && file[VERSION] == OLD_VERSION) complement_rows(image, words, file[FILE_SHAPE], file[FILE_INTERLEAVE]);
     return tell_layout(number, file, layout);
 }
