@@ -198,6 +198,15 @@ static void flip(void)
     }
 }
 
+static void put(void)
+{
+    while (more()) {
+        size_t index = number();
+        if (index >= image.length) die("put outside the image");
+        image.words[index] = shadow[index] = (uint32_t)number();
+    }
+}
+
 /* The file begins at every byte of 16 in turn, for bytes need no alignment. */
 static void set_file(void)
 {
@@ -358,6 +367,7 @@ static void run_line(void)
 {
     if (starts("image")) set_image();
     else if (starts("flip")) flip();
+    else if (starts("put")) put();
     else if (starts("file ")) set_file();
     else if (starts("spoil")) spoil();
     else if (starts("record")) for (unsigned i = 0; i < FOLDGREBE_RECORD_WORDS; i++) record.words[i] = (uint32_t)number();

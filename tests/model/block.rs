@@ -1,4 +1,4 @@
-//! A block: 32 lanes side by side. Its rows are words; row p is `block[p - 1]`.
+//! A block of the code: 32 lanes side by side. Its rows are words; row p is `block[p - 1]`. A store holds its stored form.
 
 use crate::lane::{self, Finding, Kind, Lane};
 
@@ -33,6 +33,14 @@ pub fn data_rows(shape: u32) -> Vec<usize> {
 
 pub fn data_words(shape: u32) -> usize {
     data_rows(shape).len()
+}
+
+/// The rows whose words are stored complemented.
+pub const COMPLEMENTED: [usize; 2] = [1, 2];
+
+/// The stored form of a block of the code, and of a stored block the code's again: the words of rows 1 and 2 are complemented.
+pub fn stored(block: &[u32]) -> Vec<u32> {
+    (1..=block.len()).map(|row| if COMPLEMENTED.contains(&row) { !block[row - 1] } else { block[row - 1] }).collect()
 }
 
 /// Whether a check row covers a row: the last covers all, any other those below the last that have its power of two.
@@ -89,7 +97,7 @@ pub fn data_of(shape: u32, block: &[u32]) -> Vec<u32> {
     data_rows(shape).iter().map(|row| block[row - 1]).collect()
 }
 
-/// What a visit says of a block, and the block that it leaves.
+/// What a visit says of a block of the code, and the one that it leaves.
 pub fn mended(block: &[u32]) -> (Outcome, Vec<u32>) {
     let mut after = block.to_vec();
     let (mut even, mut beyond) = (0, 0);

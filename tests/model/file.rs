@@ -2,6 +2,10 @@
 
 use crate::{block, store};
 
+/// The version that is written; one older is read too.
+pub const VERSION: u8 = 2;
+pub const OLD_VERSION: u8 = 1;
+
 /// A longer file is refused.
 pub const LONGEST: usize = 32768;
 pub const HEADER: usize = 9;
@@ -23,7 +27,7 @@ pub fn refuse(file: &[u8], bytes: u64) -> u32 {
     if bytes < HEADER as u64 {
         return 10;
     }
-    if file[0] != 1 {
+    if file[0] != VERSION && file[0] != OLD_VERSION {
         return 9;
     }
     if number_in(&file[1..5]) != bytes - 5 {
@@ -51,8 +55,23 @@ fn words_told(file: &[u8]) -> u64 {
     block::rows(shape) as u64 * store::blocks(s, g)
 }
 
-fn words_in(file: &[u8]) -> Vec<u32> {
-    file[HEADER..].chunks(4).map(|word| number_in(word) as u32).collect()
+/// Complements rows 1 and 2 of each block: the image of a version 1 file becomes one of version 2, and the other way round.
+fn change_version(image: &mut [u32], [shape, s, g]: Told) {
+    for b in 0..store::blocks(s, g) as u32 {
+        for p in block::COMPLEMENTED {
+            let at = store::index(shape, s, b, p);
+            image[at] = !image[at];
+        }
+    }
+}
+
+/// The image that a file which is not refused holds; of a version 1 file rows 1 and 2 of each block are complemented on the way in.
+fn image_in(file: &[u8]) -> Vec<u32> {
+    let mut image: Vec<u32> = file[HEADER..].chunks(4).map(|word| number_in(word) as u32).collect();
+    if file[0] == OLD_VERSION {
+        change_version(&mut image, told(file));
+    }
+    image
 }
 
 /// The first of refusals 1, 2, 3, 4, 11, 12 that applies, or 0.
@@ -70,7 +89,7 @@ pub fn write(image: &[u32], words: u64, [shape, s, g]: Told, file: &mut [u8], by
     if number != 0 {
         return (number, 0);
     }
-    let whole = file_of(shape, s, g, image);
+    let whole = file_of([shape, s, g], image);
     file[..whole.len()].copy_from_slice(&whole);
     (0, whole.len() as u32)
 }
@@ -89,13 +108,13 @@ pub fn refuse_read(file: &[u8], bytes: u64, words: u64) -> u32 {
     }
 }
 
-/// Copies a file's words to an image; answers the number, and what the file says of them.
+/// Copies a file's image to the lent one; answers the number, and what the file says of them.
 pub fn read(file: &[u8], bytes: u64, image: &mut [u32], words: u64) -> (u32, Told) {
     let number = refuse_read(file, bytes, words);
     if number != 0 {
         return (number, [0; 3]);
     }
-    image.copy_from_slice(&words_in(&file[..bytes as usize]));
+    image.copy_from_slice(&image_in(&file[..bytes as usize]));
     (0, told(file))
 }
 
@@ -106,7 +125,7 @@ pub fn inspect(file: &[u8]) -> String {
         return format!("refused {number}\n");
     }
     let [shape, s, g] = told(file);
-    let mut image = words_in(file);
+    let mut image = image_in(file);
     let n = store::blocks(s, g);
     let mut text = format!("image shape {shape} interleave {s} groups {g} blocks {n}\n");
     let mut blocks = [0; 4];
@@ -126,19 +145,31 @@ pub fn inspect(file: &[u8]) -> String {
 }
 
 /// The nine bytes before so many words.
-pub fn header(shape: u32, s: u32, g: u32, words: usize) -> Vec<u8> {
-    let mut header = vec![1];
+pub fn header(version: u8, [shape, s, g]: Told, words: usize) -> Vec<u8> {
+    let mut header = vec![version];
     header.extend((4 + 4 * words as u32).to_be_bytes());
     header.extend([shape as u8, s as u8]);
     header.extend((g as u16).to_be_bytes());
     header
 }
 
-/// The file of an image.
-pub fn file_of(shape: u32, s: u32, g: u32, image: &[u32]) -> Vec<u8> {
-    let mut file = header(shape, s, g, image.len());
-    for word in image {
+/// A header of this version and these words behind it, whatever they hold.
+pub fn bytes_of(version: u8, told: Told, words: &[u32]) -> Vec<u8> {
+    let mut file = header(version, told, words.len());
+    for word in words {
         file.extend(word.to_be_bytes());
     }
     file
+}
+
+/// The file of an image.
+pub fn file_of(told: Told, image: &[u32]) -> Vec<u8> {
+    bytes_of(VERSION, told, image)
+}
+
+/// The version 1 file of the same store, as old loggers wrote it.
+pub fn old_file_of(told: Told, image: &[u32]) -> Vec<u8> {
+    let mut words = image.to_vec();
+    change_version(&mut words, told);
+    bytes_of(OLD_VERSION, told, &words)
 }

@@ -1,11 +1,12 @@
-//! Image files for the inspecting program: valid, harmed, cut off, with flipped bits, with bad headers, and random bytes.
+//! Image files for the inspecting program, of both versions: valid, harmed, dead, cut off, with flipped bits, with bad headers, and random bytes.
 
 use std::{fs, io};
 
 use crate::block;
-use crate::file::{self, LONGEST};
-use crate::generate::{self, Layout};
+use crate::file::{self, LONGEST, OLD_VERSION, VERSION};
+use crate::generate::{self, Layout, DEAD};
 use crate::random::Random;
+use crate::{room, store};
 
 /// Layouts whose files are short enough, from one block to as many as fit.
 fn file_layout(r: &mut Random) -> Layout {
@@ -22,7 +23,12 @@ fn file_layout(r: &mut Random) -> Layout {
 
 fn valid_file(r: &mut Random) -> Vec<u8> {
     let at = file_layout(r);
-    file::file_of(at.shape, at.s, at.g, &generate::any_image(r, at))
+    room::any_file(r, at)
+}
+
+/// Every word is a dead chip's: lost 32 0 throughout in version 2, clean in version 1.
+fn dead_file(version: u8, at: Layout, word: u32) -> Vec<u8> {
+    file::bytes_of(version, at.told(), &vec![word; at.words()])
 }
 
 /// The length field made right for the bytes that are there.
@@ -40,7 +46,10 @@ fn random_bytes(r: &mut Random, length: usize) -> Vec<u8> {
 /// A header with edge values; its length field is right.
 fn edge_header(r: &mut Random) -> Vec<u8> {
     let mut bytes = valid_file(r);
-    let field = r.below(3);
+    let field = r.below(4);
+    if field == 3 {
+        bytes[0] = r.pick(&[0, 3, 255]);
+    }
     if field == 0 {
         bytes[5] = r.pick(&[0, 1, 2, 3, 255]);
     }
@@ -96,7 +105,7 @@ fn flipped(r: &mut Random) -> Vec<u8> {
 fn random_file(r: &mut Random) -> Vec<u8> {
     let length = r.pick(&[3, 20, 73, 200, 1000]) + r.below(4) as usize;
     let mut bytes = random_bytes(r, length);
-    bytes[0] = r.pick(&[0, 1, 1, 1, 2, 255]);
+    bytes[0] = r.pick(&[0, 1, 1, 2, 2, 3, 255]);
     if bytes.len() > 6 && r.chance(70) {
         (bytes[5], bytes[6]) = (r.pick(&[1, 2]), r.pick(&[0, 1, 16, 17, 40]));
     }
@@ -106,26 +115,48 @@ fn random_file(r: &mut Random) -> Vec<u8> {
     bytes
 }
 
-/// The sample run of the specification.
-fn sample() -> Vec<u8> {
-    let mut image = [0; 16];
-    image[2] = 1;
-    file::file_of(1, 1, 1, &image)
+/// The store of the specification's sample run: row 3 is 1.
+fn sample_image() -> Vec<u32> {
+    let mut block = vec![0; block::rows(1)];
+    block[2] = 1;
+    block::stored(&block)
 }
 
 /// The file with the longest report: as many blocks as fit, each with its last row flipped in every lane, and a hundred of them with
 /// another row too, so that the total has three digits of lost blocks and five of bits.
 fn longest_report() -> Vec<u8> {
     let rows = block::rows(1);
-    let blocks = (LONGEST - 9) / (4 * rows);
-    let flipped = |b: usize, row: usize| row == rows || (row == 1 && b < 100);
-    let image: Vec<u32> = (0..blocks * rows).map(|k| if flipped(k / rows, k % rows + 1) { u32::MAX } else { 0 }).collect();
-    file::file_of(1, 1, blocks as u32, &image)
+    let blocks = ((LONGEST - 9) / (4 * rows)) as u32;
+    let mut image = vec![0; blocks as usize * rows];
+    for b in 0..blocks {
+        let flipped = |row: usize| row == rows || (row == 1 && b < 100);
+        let block: Vec<u32> = (1..=rows).map(|row| if flipped(row) { u32::MAX } else { 0 }).collect();
+        store::put_block(&mut image, 1, 1, b, &block);
+    }
+    file::file_of([1, 1, blocks], &image)
+}
+
+/// The specification's sample run and the longest report; the sample in version 2 and in versions that are none; dead files of both versions
+/// and shapes.
+fn fixed_files() -> Vec<Vec<u8>> {
+    let sample = sample_image();
+    let mut files = vec![file::old_file_of([1, 1, 1], &sample), longest_report(), file::file_of([1, 1, 1], &sample)];
+    for version in [0, 3, 255] {
+        files.push(file::bytes_of(version, [1, 1, 1], &sample));
+    }
+    for version in [OLD_VERSION, VERSION] {
+        for word in DEAD {
+            files.push(dead_file(version, Layout { shape: 1, s: 3, g: 2 }, word));
+            files.push(dead_file(version, Layout { shape: 2, s: 1, g: 3 }, word));
+        }
+    }
+    files
 }
 
 fn any_file(r: &mut Random) -> Vec<u8> {
     match r.below(100) {
-        0..=39 => valid_file(r),
+        0..=35 => valid_file(r),
+        36..=39 => dead_file(r.pick(&[OLD_VERSION, VERSION]), file_layout(r), r.pick(&DEAD)),
         40..=54 => flipped(r),
         55..=64 => cut_or_longer(r),
         65..=79 => edge_header(r),
@@ -134,17 +165,29 @@ fn any_file(r: &mut Random) -> Vec<u8> {
     }
 }
 
-/// So many files from a seed, as DIR/K.image and DIR/K.expected; the first is the specification's sample, the second has the longest report.
+fn write_file(dir: &str, k: usize, bytes: &[u8]) -> io::Result<()> {
+    fs::write(format!("{dir}/{k}.image"), bytes)?;
+    fs::write(format!("{dir}/{k}.expected"), file::inspect(bytes))
+}
+
+/// So many files from a seed, as DIR/K.image and DIR/K.expected, the fixed ones first.
 pub fn write(seed: u64, count: u64, dir: &str) -> io::Result<()> {
     let mut r = Random::new(seed);
-    for k in 0..count {
-        let bytes = match k {
-            0 => sample(),
-            1 => longest_report(),
-            _ => any_file(&mut r),
-        };
-        fs::write(format!("{dir}/{k}.image"), &bytes)?;
-        fs::write(format!("{dir}/{k}.expected"), file::inspect(&bytes))?;
+    let fixed = fixed_files();
+    for k in 0..count as usize {
+        let bytes = if k < fixed.len() { fixed[k].clone() } else { any_file(&mut r) };
+        write_file(dir, k, &bytes)?;
+    }
+    Ok(())
+}
+
+/// So many version 1 files that are not refused, as DIR/K.image and DIR/K.expected: dead words, which were clean, and then any store.
+pub fn write_old(seed: u64, count: u64, dir: &str) -> io::Result<()> {
+    let mut r = Random::new(seed);
+    for k in 0..count as usize {
+        let at = file_layout(&mut r);
+        let bytes = if k < DEAD.len() { dead_file(OLD_VERSION, at, DEAD[k]) } else { file::old_file_of(at.told(), &generate::any_image(&mut r, at)) };
+        write_file(dir, k, &bytes)?;
     }
     Ok(())
 }

@@ -3,7 +3,7 @@
 
 use crate::block;
 use crate::call::{Call, Lent, Name};
-use crate::file;
+use crate::file::{self, Told};
 use crate::patrol::{Record, NEXT, PLACE, WAITING};
 use crate::random::Random;
 use crate::room;
@@ -19,6 +19,12 @@ pub struct Layout {
 /// One flip: an index into the image and a bit.
 pub type Flip = (usize, u32);
 
+/// One word overwritten: an index into the image and what it holds then.
+pub type Put = (usize, u32);
+
+/// What every word of a dead chip reads.
+pub const DEAD: [u32; 2] = [0, u32::MAX];
+
 impl Layout {
     pub fn blocks(self) -> u32 {
         self.s * self.g
@@ -26,6 +32,10 @@ impl Layout {
 
     pub fn words(self) -> usize {
         block::rows(self.shape) * self.blocks() as usize
+    }
+
+    pub fn told(self) -> Told {
+        [self.shape, self.s, self.g]
     }
 }
 
@@ -57,11 +67,16 @@ pub fn any_layout(r: &mut Random) -> Layout {
     Layout { shape, s, g }
 }
 
-/// Zeros, valid blocks, valid blocks with harm, or anything at all.
+/// Fresh, dead, valid blocks, valid blocks with harm, or anything at all.
 pub fn any_image(r: &mut Random, at: Layout) -> Vec<u32> {
     let mut image = vec![0; at.words()];
     let kind = r.below(100);
-    if kind < 15 {
+    if kind < 10 {
+        store::fresh(&mut image, at.shape, at.s, at.g);
+        return image;
+    }
+    if kind < 20 {
+        image.fill(r.pick(&DEAD));
         return image;
     }
     if kind >= 88 {
@@ -112,6 +127,12 @@ pub fn harm(r: &mut Random, at: Layout, b: u32) -> Vec<Flip> {
         flips.push((any_row(r, at, b), lane));
     }
     flips
+}
+
+/// A block whose chip has died: each of its words overwritten.
+pub fn death(r: &mut Random, at: Layout, b: u32) -> Vec<Put> {
+    let word = r.pick(&DEAD);
+    (1..=block::rows(at.shape)).map(|row| (store::index(at.shape, at.s, b, row), word)).collect()
 }
 
 /// The index of some row of a block.

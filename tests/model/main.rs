@@ -4,6 +4,7 @@
 //!   model stream SEED CALLS DIR        DIR/calls, DIR/expected, DIR/tally
 //!   model tally                        sums tallies from standard input, and fails where a kind of answer is too rare
 //!   model files SEED COUNT DIR         DIR/K.image, DIR/K.expected
+//!   model old SEED COUNT DIR           the same of version 1 files that are not refused
 //!   model inspect                      what the inspecting program must print of the file on standard input
 //!   model vectors SEED COUNT           to standard output, in the form of tests/VECTORS.md
 
@@ -75,10 +76,11 @@ fn main() -> io::Result<()> {
         ["stream", seed, calls, dir] => stream::write(number(seed), number(calls), dir)?,
         ["tally"] => exit(if tally()? { 0 } else { 1 }),
         ["files", seed, count, dir] => files::write(number(seed), number(count), dir)?,
+        ["old", seed, count, dir] => files::write_old(number(seed), number(count), dir)?,
         ["inspect"] => inspect()?,
         ["vectors", seed, count] => vectors::write(number(seed), number(count) as usize)?,
         _ => {
-            eprintln!("usage: model examples | stream SEED CALLS DIR | tally | files SEED COUNT DIR | inspect | vectors SEED COUNT");
+            eprintln!("usage: model examples | stream SEED CALLS DIR | tally | files SEED COUNT DIR | old SEED COUNT DIR | inspect | vectors SEED N");
             exit(2);
         }
     }

@@ -1,7 +1,7 @@
 //! The room that is lent for a file: what it holds at first, how it is spoilt, and how many of its bytes a call is lent.
 
 use crate::call::Name;
-use crate::file::{self, HEADER, LONGEST};
+use crate::file::{self, HEADER, LONGEST, OLD_VERSION, VERSION};
 use crate::generate::{self, Layout};
 use crate::random::Random;
 
@@ -36,16 +36,32 @@ fn other_layout(r: &mut Random, at: Layout) -> Layout {
     if r.chance(50) { generate::tiny_layout(r) } else { generate::same_length(r, at) }
 }
 
+/// Either version, the new one more often.
+fn any_version(r: &mut Random) -> u8 {
+    if r.chance(40) { OLD_VERSION } else { VERSION }
+}
+
+/// A whole file of either version, of any image.
+pub fn any_file(r: &mut Random, at: Layout) -> Vec<u8> {
+    let image = generate::any_image(r, at);
+    if any_version(r) == VERSION { file::file_of(at.told(), &image) } else { file::old_file_of(at.told(), &image) }
+}
+
+/// A header of either version, right for this layout.
+fn any_header(r: &mut Random, at: Layout) -> Vec<u8> {
+    file::header(any_version(r), at.told(), at.words())
+}
+
 /// Nothing, a header, a whole small file, or anything at the front, and the filler behind: what is written as text stays short.
 pub fn any_room(r: &mut Random, at: Layout) -> Vec<u8> {
     let mut room = match r.below(100) {
         0..=29 => Vec::new(),
-        30..=54 => file::header(at.shape, at.s, at.g, at.words()),
+        30..=54 => any_header(r, at),
         55..=69 => {
             let other = other_layout(r, at);
-            file::header(other.shape, other.s, other.g, other.words())
+            any_header(r, other)
         }
-        70..=84 if at.words() <= 64 => file::file_of(at.shape, at.s, at.g, &generate::any_image(r, at)),
+        70..=84 if at.words() <= 64 => any_file(r, at),
         _ => (0..r.below(64)).map(|_| r.word() as u8).collect(),
     };
     let length = any_length(r, at);
@@ -58,7 +74,7 @@ pub fn any_room(r: &mut Random, at: Layout) -> Vec<u8> {
 fn spoilt_header(r: &mut Random, at: Layout, room: &[u8]) -> Vec<Spoilt> {
     let most = (4096 / at.s) as u16;
     match r.below(8) {
-        0 => vec![(0, r.pick(&[0, 2, 129, 255]))],
+        0 => vec![(0, r.pick(&[0, 0, 3, 3, 129, 130, 255, OLD_VERSION, VERSION]))],
         1 => vec![(r.from_to(1, 4) as usize, r.word() as u8)],
         2 | 3 => {
             let any = r.below(room.len() as u64 + 1) as usize;
@@ -74,7 +90,7 @@ fn spoilt_header(r: &mut Random, at: Layout, room: &[u8]) -> Vec<Spoilt> {
 
 /// The scene's own header, but that its length field counts one to three bytes more, which are no word.
 fn uneven_header(r: &mut Random, at: Layout) -> Vec<Spoilt> {
-    let mut header = file::header(at.shape, at.s, at.g, at.words());
+    let mut header = any_header(r, at);
     header[1..5].copy_from_slice(&((length(at) - 5) as u32 + r.from_to(1, 3)).to_be_bytes());
     placed(0, &header)
 }
@@ -86,7 +102,7 @@ fn placed(first: usize, bytes: &[u8]) -> Vec<Spoilt> {
 /// Bytes to put into the room: a header made right again, or right but for some bytes too many, or spoilt once or twice, or some bytes of the body.
 pub fn spoil(r: &mut Random, at: Layout, room: &[u8]) -> Vec<Spoilt> {
     let mut spoilt = match r.below(100) {
-        0..=25 => placed(0, &file::header(at.shape, at.s, at.g, at.words())),
+        0..=25 => placed(0, &any_header(r, at)),
         26..=29 => uneven_header(r, at),
         30..=69 => spoilt_header(r, at, room),
         70..=84 => [spoilt_header(r, at, room), spoilt_header(r, at, room)].concat(),

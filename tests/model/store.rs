@@ -15,14 +15,20 @@ pub fn index(shape: u32, s: u32, b: u32, p: usize) -> usize {
     group * rows * s + (p - 1) * s + place
 }
 
-/// A block's rows, taken out of the image.
-pub fn block_at(image: &[u32], shape: u32, s: u32, b: u32) -> Vec<u32> {
+/// A block's words as they lie in the image, row by row.
+pub fn words_at(image: &[u32], shape: u32, s: u32, b: u32) -> Vec<u32> {
     (1..=block::rows(shape)).map(|p| image[index(shape, s, b, p)]).collect()
 }
 
-pub fn put_block(image: &mut [u32], shape: u32, s: u32, b: u32, rows: &[u32]) {
-    for p in 1..=block::rows(shape) {
-        image[index(shape, s, b, p)] = rows[p - 1];
+/// The code's block that the image holds as block b.
+fn block_at(image: &[u32], shape: u32, s: u32, b: u32) -> Vec<u32> {
+    block::stored(&words_at(image, shape, s, b))
+}
+
+/// Puts a block of the code into the image, in its stored form.
+pub fn put_block(image: &mut [u32], shape: u32, s: u32, b: u32, block: &[u32]) {
+    for (p, word) in (1..=block::rows(shape)).zip(block::stored(block)) {
+        image[index(shape, s, b, p)] = word;
     }
 }
 
@@ -71,12 +77,21 @@ pub fn refuse_list(words: u64, shape: u32, s: u32, g: u32, b: u32, length: usize
     }
 }
 
+/// What format leaves: FFFFFFFF hex in rows 1 and 2, and zero elsewhere.
+pub fn fresh(image: &mut [u32], shape: u32, s: u32, g: u32) {
+    image.fill(0);
+    for b in 0..blocks(s, g) as u32 {
+        image[index(shape, s, b, 1)] = 0xffff_ffff;
+        image[index(shape, s, b, 2)] = 0xffff_ffff;
+    }
+}
+
 /// Every call takes the count of words that is lent beside the words, since a test may lend a wrong count.
 pub fn format(image: &mut [u32], words: u64, shape: u32, s: u32, g: u32) -> (u32, Record) {
     let number = refuse_image(words, shape, s, g);
     let mut record = [0; 21];
     if number == 0 {
-        image.fill(0);
+        fresh(image, shape, s, g);
         (record[0], record[1], record[2]) = (shape, s, g);
     }
     (number, record)

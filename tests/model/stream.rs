@@ -5,10 +5,12 @@ use std::fs::File;
 use std::io::{self, BufWriter, Write};
 
 use crate::call::{self, Answer, Call, Lent, Name, ASK, ASK_VERDICT, VERDICT};
-use crate::file;
-use crate::generate::{self, Layout};
+use crate::file::{self, LONGEST, OLD_VERSION};
+use crate::generate::{self, Layout, DEAD};
+use crate::patrol::NEXT;
 use crate::random::Random;
-use crate::room;
+use crate::room::{self, Spoilt};
+use crate::store;
 use crate::text;
 
 /// How often each call gave each answer.
@@ -47,10 +49,36 @@ fn verdict_name(words: &[u32]) -> &'static str {
     }
 }
 
-/// The call, its number, and which kind of accepted answer it is, or which reason a number has.
-pub fn kind(call: &Call, answer: &Answer, before: &Lent) -> String {
+/// What the chip reads, where the first block that a call visits or reads is all dead and is called lost 32 0.
+fn dead(call: &Call, answer: &Answer, before: &Lent) -> Option<&'static str> {
+    let record = &before.record;
+    let (shape, s, b) = match call.name {
+        Name::Read | Name::Visit => (call.shape, call.s, call.block),
+        Name::Turn => (record[0], record[1], record[NEXT]),
+        _ => return None,
+    };
+    if answer.number != 0 || answer.report[VERDICT..ASK] != [3, 32, 0] {
+        return None;
+    }
+    let words = store::words_at(&before.image, shape, s, b);
+    let reads = DEAD.iter().position(|dead| words.iter().all(|word| word == dead))?;
+    Some(["dead zeros", "dead ones"][reads])
+}
+
+/// Whether the buffer of an accepted write holds the very image as a version 1 file.
+fn renews(call: &Call, before: &Lent, length: u32) -> bool {
+    let mut image = vec![0; before.image.len()];
+    before.file[0] == OLD_VERSION && file::read(&before.file, u64::from(length), &mut image, call.words).0 == 0 && image == before.image
+}
+
+fn version_name(version: u8) -> &'static str {
+    ["version 0", "version 1", "version 2", "version 3"].get(version as usize).unwrap_or(&"version above")
+}
+
+/// Which kind of accepted answer it is, or which reason a number has.
+fn detail(call: &Call, answer: &Answer, before: &Lent) -> &'static str {
     let report = &answer.report;
-    let detail = match (call.name, answer.number) {
+    match (call.name, answer.number) {
         (Name::Read | Name::Visit, 0) => verdict_name(&report[VERDICT..]),
         (Name::Turn, 0) if report[ASK_VERDICT + 2] > 0 => "asked beyond",
         (Name::Turn, 0) if report[VERDICT + 2] > 0 => "beyond",
@@ -60,34 +88,43 @@ pub fn kind(call: &Call, answer: &Answer, before: &Lent) -> String {
         (Name::Ask, 0) if !before.record[5..][..before.record[4] as usize].contains(&call.block) => "new",
         (Name::Ask, 0) if before.record[4] == 16 => "again-full",
         (Name::Ask, 0) => "again",
+        (Name::FileWrite, 0) if renews(call, before, answer.place) => "renewed",
         (Name::FileWrite, 0) if call.bytes == u64::from(answer.place) => "exact",
         (Name::FileWrite, 0) => "longer",
+        (Name::FileLayout | Name::FileRead, 0 | 9) => version_name(before.file[0]),
         (Name::FileLayout | Name::FileRead, 10) if call.bytes < file::HEADER as u64 => "short",
         (Name::FileLayout | Name::FileRead, 10) => "field",
         (Name::FileLayout | Name::FileRead, 4) if file::uneven(&before.file, call.bytes) => "uneven",
         (Name::FileRead, 4) if file::refuse(&before.file, call.bytes) == 4 => "body",
         (Name::FileRead, 4) => "image",
         _ => "",
-    };
+    }
+}
+
+/// The call, its number, and the detail.
+pub fn kind(call: &Call, answer: &Answer, before: &Lent) -> String {
+    let detail = dead(call, answer, before).unwrap_or_else(|| detail(call, answer, before));
     format!("{} {} {detail}", call.name.text(), answer.number).trim_end().to_string()
 }
 
 /// Every kind of answer that there is.
 pub fn kinds() -> Vec<String> {
-    let ladders: [(&str, &[&str]); 9] = [
-        ("format", &["0", "1", "2", "3", "4"]),
-        ("write", &["0", "1", "2", "3", "4", "6", "7"]),
-        ("read", &["0 clean", "0 mended", "0 lost even", "0 lost beyond", "0 lost both", "1", "2", "3", "4", "6", "7"]),
-        ("visit", &["0 clean", "0 mended", "0 lost even", "0 lost beyond", "0 lost both", "1", "2", "3", "4", "6"]),
-        ("ask", &["0 new", "0 again", "0 again-full", "1", "2", "3", "5", "6", "8"]),
-        ("turn", &["0 alone", "0 asked", "0 twice", "0 beyond", "0 asked beyond", "1", "2", "3", "4", "5"]),
-        ("file_write", &["0 exact", "0 longer", "1", "2", "3", "4", "11", "12"]),
-        ("file_layout", &["0", "11", "10 short", "9", "10 field", "1", "2", "3", "4", "4 uneven"]),
-        ("file_read", &["0", "11", "10 short", "9", "10 field", "1", "2", "3", "4 body", "4 uneven", "4 image"]),
+    let verdicts = ["0 clean", "0 mended", "0 lost even", "0 lost beyond", "0 lost both", "0 dead zeros", "0 dead ones"];
+    let versions = ["0 version 1", "0 version 2", "11", "10 short", "9 version 0", "9 version 3", "9 version above", "10 field"];
+    let ladders: [(&str, &[&str], &[&str]); 9] = [
+        ("format", &[], &["0", "1", "2", "3", "4"]),
+        ("write", &[], &["0", "1", "2", "3", "4", "6", "7"]),
+        ("read", &verdicts, &["1", "2", "3", "4", "6", "7"]),
+        ("visit", &verdicts, &["1", "2", "3", "4", "6"]),
+        ("ask", &[], &["0 new", "0 again", "0 again-full", "1", "2", "3", "5", "6", "8"]),
+        ("turn", &["0 alone", "0 asked", "0 twice", "0 beyond", "0 asked beyond", "0 dead zeros", "0 dead ones"], &["1", "2", "3", "4", "5"]),
+        ("file_write", &["0 exact", "0 longer", "0 renewed"], &["1", "2", "3", "4", "11", "12"]),
+        ("file_layout", &versions, &["1", "2", "3", "4", "4 uneven"]),
+        ("file_read", &versions, &["1", "2", "3", "4 body", "4 uneven", "4 image"]),
     ];
     let mut kinds = Vec::new();
-    for (name, answers) in ladders {
-        answers.iter().for_each(|answer| kinds.push(format!("{name} {answer}")));
+    for (name, first, then) in ladders {
+        first.iter().chain(then).for_each(|answer| kinds.push(format!("{name} {answer}")));
     }
     kinds
 }
@@ -111,13 +148,18 @@ pub fn write(seed: u64, calls: u64, dir: &str) -> io::Result<()> {
     stream.expected.flush()
 }
 
-/// Now and then, before a call: flips in the image, another record, bytes of the file overwritten, another file.
+/// Now and then, before a call: flips in the image, a block that dies, another record, bytes of the file overwritten, another file.
 fn unsettle(r: &mut Random, stream: &mut Stream, at: Layout, lent: &mut Lent) -> io::Result<()> {
+    let b = r.below(u64::from(at.blocks())) as u32;
     if r.chance(25) {
-        let b = r.below(u64::from(at.blocks())) as u32;
         let flips = generate::harm(r, at, b);
         flips.iter().for_each(|(index, bit)| lent.image[*index] ^= 1 << bit);
         stream.set(&text::flip_line(&flips))?;
+    }
+    if r.chance(2) {
+        let puts = generate::death(r, at, b);
+        puts.iter().for_each(|(index, word)| lent.image[*index] = *word);
+        stream.set(&text::put_line(&puts))?;
     }
     if r.chance(15) {
         lent.record = generate::any_record(r, at);
@@ -125,8 +167,7 @@ fn unsettle(r: &mut Random, stream: &mut Stream, at: Layout, lent: &mut Lent) ->
     }
     if r.chance(8) {
         let spoilt = room::spoil(r, at, &lent.file);
-        spoilt.iter().for_each(|(index, byte)| lent.file[*index] = *byte);
-        stream.set(&text::spoil_line(&spoilt))?;
+        spoil(stream, lent, &spoilt)?;
     }
     if r.chance(2) {
         lent.file = room::any_room(r, at);
@@ -135,16 +176,43 @@ fn unsettle(r: &mut Random, stream: &mut Stream, at: Layout, lent: &mut Lent) ->
     Ok(())
 }
 
+fn spoil(stream: &mut Stream, lent: &mut Lent, spoilt: &[Spoilt]) -> io::Result<()> {
+    spoilt.iter().for_each(|(index, byte)| lent.file[*index] = *byte);
+    stream.set(&text::spoil_line(spoilt))
+}
+
+/// The calls that `renew` makes.
+const RENEWING: u64 = 5;
+
+/// The image goes into a file, which is then called version 1, read, and written as version 2; twice, so that the image is what it was.
+fn renew(stream: &mut Stream, at: Layout, lent: &mut Lent) -> io::Result<()> {
+    let bytes = room::length(at) as u64;
+    let call = |name| Call { name, words: at.words() as u64, shape: at.shape, s: at.s, g: at.g, block: 0, list: Vec::new(), bytes };
+    for _ in 0..2 {
+        stream.call(call(Name::FileWrite), lent)?;
+        spoil(stream, lent, &[(0, OLD_VERSION)])?;
+        stream.call(call(Name::FileRead), lent)?;
+    }
+    stream.call(call(Name::FileWrite), lent)
+}
+
 fn scene(r: &mut Random, stream: &mut Stream, length: u64) -> io::Result<()> {
     let at = generate::any_layout(r);
     let mut lent = Lent { image: generate::any_image(r, at), record: generate::any_record(r, at), file: room::any_room(r, at) };
     stream.set(&text::image_line(&lent.image))?;
     stream.set(&text::record_line(&lent.record))?;
     stream.set(&text::file_line(&lent.file))?;
-    for _ in 0..length {
+    let mut left = length;
+    while left > 0 {
         unsettle(r, stream, at, &mut lent)?;
+        if r.chance(1) && left >= RENEWING && room::length(at) <= lent.file.len().min(LONGEST) {
+            renew(stream, at, &mut lent)?;
+            left -= RENEWING;
+            continue;
+        }
         let call = generate::any_call(r, at, &lent);
         stream.call(call, &mut lent)?;
+        left -= 1;
     }
     Ok(())
 }

@@ -2,7 +2,7 @@
 //! tests/README.md has the whole of it.
 
 use crate::call::{Answer, Call, Lent, Name, ASK, VERDICT};
-use crate::generate::Flip;
+use crate::generate::{Flip, Put};
 use crate::patrol::Record;
 use crate::room::{filler, Spoilt};
 
@@ -49,6 +49,15 @@ pub fn flip_line(flips: &[Flip]) -> String {
     for (index, bit) in flips {
         put(&mut line, *index as u64);
         put(&mut line, u64::from(*bit));
+    }
+    line
+}
+
+pub fn put_line(puts: &[Put]) -> String {
+    let mut line = String::from("put");
+    for (index, word) in puts {
+        put(&mut line, *index as u64);
+        put(&mut line, u64::from(*word));
     }
     line
 }

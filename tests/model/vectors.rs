@@ -3,7 +3,6 @@
 use std::io::{self, BufWriter, Write};
 
 use crate::call::{self, Call, Lent, Name};
-use crate::file;
 use crate::generate::{self, Layout};
 use crate::random::Random;
 use crate::room;
@@ -68,6 +67,10 @@ fn scene(r: &mut Random, at: Layout, vectors: &mut Vec<Vec<u32>>) {
             let b = r.below(u64::from(at.blocks())) as u32;
             generate::harm(r, at, b).iter().for_each(|(index, bit)| lent.image[*index] ^= 1 << bit);
         }
+        if r.chance(4) {
+            let b = r.below(u64::from(at.blocks())) as u32;
+            generate::death(r, at, b).iter().for_each(|(index, word)| lent.image[*index] = *word);
+        }
         if r.chance(25) {
             lent.record = generate::any_record(r, at);
         }
@@ -91,11 +94,10 @@ fn ask_scene(r: &mut Random, vectors: &mut Vec<Vec<u32>>) {
     }
 }
 
-/// Calls on a file that is whole, or spoilt in a way or two.
+/// Calls on a file of either version that is whole, or spoilt in a way or two.
 fn file_scene(r: &mut Random, at: Layout, vectors: &mut Vec<Vec<u32>>) {
     for _ in 0..6 {
-        let image = generate::any_image(r, at);
-        let mut file = file::file_of(at.shape, at.s, at.g, &image);
+        let mut file = room::any_file(r, at);
         file.resize(file.len() + r.pick(&[0, 0, 1, 3, 30]), r.word() as u8);
         if r.chance(65) {
             room::spoil(r, at, &file).iter().for_each(|(index, byte)| file[*index] = *byte);
