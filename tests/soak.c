@@ -1,8 +1,9 @@
 /* A store in use, under a steady rain of flips: any lane of any block, but at least N turns between two flips of one lane of
    one block. Every read must give what was last written (zeros where nothing was); every visit must count the flips that
-   came since the last one; every ask must be served in its turn. Now and then the image goes through a file and back, or a
-   block is lost on purpose, lane by lane of either kind, and written again; the store lives on. Only the library's answers
-   are used.
+   came since the last one; every ask must be served in its turn. Now and then the image goes through a file of either version
+   and back, or a block is lost on purpose, lane by lane of either kind, and written again, or the chip is dead for a while and
+   reads all zeros or all ones: every visit must then say lost 32 0 and alter nothing. The store lives on. Only the library's
+   answers are used, and where the rows lie.
 
    soak SEED TURNS   so many turns on each of twenty-two stores; exits 1 at the first wrong answer. */
 #include <stdio.h>
@@ -11,6 +12,7 @@
 #include "foldgrebe.h"
 
 enum { LANES = 32, MOST_BLOCKS = 600, MOST_ROWS = 72, MOST_DATA = 64, GUARDS = 64 };
+enum { HEADER = 9, OLD_VERSION = 1, NEW_VERSION = 2, COMPLEMENTED_ROWS = 2 };
 static const uint32_t GUARD = 0x6b8f21d3;
 
 static uint32_t shape, s, g, n, rows, data_words;             /* the store's layout */
@@ -24,7 +26,8 @@ static uint64_t last_flip[MOST_BLOCKS][LANES];                /* the turn before
 static uint32_t waiting[FOLDGREBE_PLACES], waits;             /* the asks, as their places told */
 static uint8_t file_room[FOLDGREBE_FILE_BYTES + 2 * GUARDS];
 static uint32_t kept[MOST_BLOCKS * MOST_ROWS];                /* the image while it is in a file alone, or before a visit that must not alter it */
-static uint64_t turns, next, flips, reads, writes, asks, files, losses;
+static uint32_t dead[MOST_BLOCKS * MOST_ROWS];                /* the image while its chip, or a block of it, is dead */
+static uint64_t turns, next, flips, reads, writes, asks, files, losses, deaths;
 static uint64_t random_state;
 static uint64_t seed;
 
@@ -123,6 +126,48 @@ static void lose_one(void)
     losses++;
 }
 
+static void kill_block(uint32_t block, uint32_t reads_as)
+{
+    for (uint32_t row = 1; row <= rows; row++) *word_of(block, row) = reads_as;
+}
+
+/* Of a dead block a visit and a read say lost 32 0. */
+static void expect_dead(uint32_t block)
+{
+    uint32_t verdict[FOLDGREBE_VERDICT_WORDS], buffer[MOST_DATA], filled[MOST_DATA];
+    for (uint32_t i = 0; i < data_words; i++) buffer[i] = filled[i] = (uint32_t)random_number();
+    expect(foldgrebe_visit(image, words, shape, s, g, block, verdict) == 0, "visit refused", block);
+    expect_lost(block, verdict, UINT32_MAX, 0);
+    expect(foldgrebe_read(image, words, shape, s, g, block, buffer, data_words, verdict) == 0, "read refused", block);
+    expect_lost(block, verdict, UINT32_MAX, 0);
+    expect(memcmp(buffer, filled, data_words * sizeof *buffer) == 0, "buffer of a lost read altered", block);
+}
+
+/* A turn over a dead chip says so of both its blocks; the record that goes on is the one from before. */
+static void turn_dead(void)
+{
+    uint32_t turned[FOLDGREBE_RECORD_WORDS], report[FOLDGREBE_REPORT_WORDS];
+    memcpy(turned, record, sizeof record);
+    expect(foldgrebe_turn(turned, image, words, report) == 0, "turn refused", (uint32_t)next);
+    expect_lost((uint32_t)next, report + FOLDGREBE_REPORT_VERDICT, UINT32_MAX, 0);
+    if (waits) expect_lost(waiting[0], report + FOLDGREBE_REPORT_ASK_VERDICT, UINT32_MAX, 0);
+}
+
+/* One block or the whole chip is dead, is seen to be, and comes back as it was. */
+static void die_one(void)
+{
+    uint32_t reads_as = below(2) ? UINT32_MAX : 0, first = below(n), end = first + 1;
+    memcpy(kept, image, words * sizeof *image);
+    if (below(2)) first = 0, end = n;
+    for (uint32_t block = first; block < end; block++) kill_block(block, reads_as);
+    memcpy(dead, image, words * sizeof *image);
+    for (uint32_t block = first; block < end; block++) expect_dead(block);
+    if (end - first == n) turn_dead();
+    expect(memcmp(dead, image, words * sizeof *image) == 0, "dead image altered", first);
+    memcpy(image, kept, words * sizeof *image);
+    deaths++;
+}
+
 static uint32_t place_of(uint32_t block)
 {
     for (uint32_t i = 0; i < waits; i++) if (waiting[i] == block) return i + 1;
@@ -170,6 +215,28 @@ static void expect_room(const uint8_t *file, size_t length)
         if (byte < file || byte >= file + length) expect(*byte == (uint8_t)GUARD, "byte outside the file altered", 0);
 }
 
+/* A word of a file's body, counted from 0; its highest byte comes first. */
+static uint32_t word_in(const uint8_t *file, size_t k)
+{
+    const uint8_t *b = file + HEADER + 4 * k;
+    return (uint32_t)b[0] << 24 | (uint32_t)b[1] << 16 | (uint32_t)b[2] << 8 | b[3];
+}
+
+/* The file is of the new version and has the image's own words. */
+static void expect_file(const uint8_t *file)
+{
+    expect(file[0] == NEW_VERSION, "file is not of the new version", 0);
+    for (size_t k = 0; k < words; k++) expect(word_in(file, k) == image[k], "file has another word", 0);
+}
+
+/* The file as an old logger wrote it: version 1, and no row complemented. */
+static void make_old(uint8_t *file)
+{
+    file[0] = OLD_VERSION;
+    for (size_t k = 0; k < words; k++)
+        if (k / s % rows < COMPLEMENTED_ROWS) for (int i = 0; i < 4; i++) file[HEADER + 4 * k + i] ^= 0xff;
+}
+
 /* The file must say the store's layout, and give back its words to an image that holds other ones. */
 static void read_back(const uint8_t *file, size_t length)
 {
@@ -184,6 +251,14 @@ static void read_back(const uint8_t *file, size_t length)
     expect(memcmp(kept, image, words * sizeof *image) == 0, "file_read is not what was written", 0);
 }
 
+/* The new file gives the image, or the old one of the same store. */
+static void read_either(uint8_t *file, size_t length)
+{
+    expect_file(file);
+    if (below(2)) make_old(file);
+    read_back(file, length);
+}
+
 /* A buffer that is one byte short is refused, and stays. */
 static void expect_short(uint8_t *file, size_t length)
 {
@@ -192,11 +267,11 @@ static void expect_short(uint8_t *file, size_t length)
     expect_room(file, 0);
 }
 
-/* The image goes into a file, at any byte of the room, and comes back; one that is too large is refused. */
+/* The image goes into a file, at any byte of the room, and comes back, from version 1 as often; one that is too large is refused. */
 static void file_one(void)
 {
     uint8_t *file = file_room + GUARDS - below(16);
-    size_t length = 9 + 4 * words, lent = length + below(3) * 32;
+    size_t length = HEADER + 4 * words, lent = length + below(3) * 32;
     uint32_t written = 1;
     memset(file_room, (uint8_t)GUARD, sizeof file_room);
     if (length <= FOLDGREBE_FILE_BYTES) expect_short(file, length);
@@ -205,7 +280,7 @@ static void file_one(void)
     if (length > FOLDGREBE_FILE_BYTES) { expect(number == 11 && written == 0, "file that is too long not refused", 0); length = 0; }
     else expect(number == 0 && written == length, "file_write refused, or of a wrong length", 0);
     expect_room(file, length);
-    if (length) read_back(file, length);
+    if (length) read_either(file, length);
 }
 
 static void fresh_store(void)
@@ -215,6 +290,8 @@ static void fresh_store(void)
     waits = 0, turns = next = 0;
     for (size_t i = 0; i < words + 2 * GUARDS; i++) room[i] = GUARD;
     expect(foldgrebe_format(image, words, shape, s, g, record) == 0, "format refused", 0);
+    for (size_t k = 0; k < words; k++)
+        expect(image[k] == (k / s % rows < COMPLEMENTED_ROWS ? UINT32_MAX : 0), "fresh image has another word", 0);
 }
 
 static void use_store(uint64_t upto)
@@ -231,6 +308,7 @@ static void use_store(uint64_t upto)
         }
         if (below(32) == 0) file_one();
         if (below(64) == 0) lose_one();
+        if (below(256) == 0) die_one();
         if (turns % 512 == 0) drops = heaviness[below(4)];
     }
     for (size_t i = 0; i < GUARDS; i++) expect(room[i] == GUARD && image[words + i] == GUARD, "guard word altered", 0);
@@ -249,8 +327,8 @@ int main(int argc, char **argv)
         fresh_store();
         use_store(strtoull(argv[2], NULL, 10));
     }
-    printf("soak: seed %llu, %llu flips, %llu reads, %llu writes, %llu asks, %llu files, %llu losses as they should be\n", (unsigned long long)seed,
-           (unsigned long long)flips, (unsigned long long)reads, (unsigned long long)writes, (unsigned long long)asks,
-           (unsigned long long)files, (unsigned long long)losses);
+    printf("soak: seed %llu, %llu flips, %llu reads, %llu writes, %llu asks, %llu files, %llu losses, %llu deaths as they should be\n",
+           (unsigned long long)seed, (unsigned long long)flips, (unsigned long long)reads, (unsigned long long)writes, (unsigned long long)asks,
+           (unsigned long long)files, (unsigned long long)losses, (unsigned long long)deaths);
     return 0;
 }
