@@ -2,7 +2,8 @@
 
    A block holds 11 data words in 16 rows (shape 1) or 64 data words in 72 rows (shape 2); a row is one word. Bit i of
    every row is lane i. One flipped bit in each lane is mended; two in one lane are noticed, and the block is then lost,
-   with the lanes of each of the two kinds of lost counted.
+   with the lanes of each of the two kinds of lost counted. The words of rows 1 and 2 are stored complemented, so that a dead
+   chip shows: a block that reads all zeros, or all ones, is lost in 32 lanes, all with even parity.
    An image has N = s * g blocks (s from 1 to 16, N at most 4096) and exactly rows * N words. Blocks are numbered from 0.
    Neighbouring words belong to s different blocks, so that a hit on up to s words in a row harms s blocks a little.
 
@@ -22,16 +23,17 @@
      6  there is no block of that number
      7  the data or the buffer is not of 11 or 64 words, as the shape wants
      8  16 other blocks wait already
-     9  the version of the file is not 1
+     9  the version of the file is neither 1 nor 2
     10  the file has fewer than 9 bytes, or its length field is not the number of bytes after byte 4
     11  the file has, or would have, above 32768 bytes
     12  the buffer that is lent for a file is shorter than the file
    A refused call sets verdict, place, report, written and layout to zeros and alters nothing else; only a refused format
    also gives a record of zeros.
 
-   A file is an image as bytes, to be sent or kept: byte 0 is the version, 1; bytes 1 to 4 say how many bytes come after
+   A file is an image as bytes, to be sent or kept: byte 0 is the version, 2; bytes 1 to 4 say how many bytes come after
    byte 4; then come one byte for the shape, one for s, two for g, and from byte 9 on the words of the image. All numbers
-   have their highest byte first. The record is not in it.
+   have their highest byte first. The record is not in it. A file of version 1, from before rows 1 and 2 were complemented, is
+   read too: these rows are complemented on the way in. None is written.
 
    What the caller owes:
    - each pointer points at as many words, or for a file bytes, as its count or its array says, and is not NULL, also
@@ -93,8 +95,9 @@ extern "C" {
 /* No file is longer, so a buffer of so many bytes always does. */
 #define FOLDGREBE_FILE_BYTES 32768
 
-/* Sets every word of the image to zero, which is zero data in every block, and gives a new record. Refuses 1, 2, 3, 4.
-   Refused, it gives a record of zeros: lend it other words than those of a record that is in use, or that one is gone. */
+/* Stores zero data in every block, which is FFFFFFFF hex in rows 1 and 2 and zero elsewhere, and gives a new record.
+   Refuses 1, 2, 3, 4. Refused, it gives a record of zeros: lend it other words than those of a record that is in use, or
+   that one is gone. */
 uint32_t foldgrebe_format(uint32_t *image, size_t words, uint32_t shape, uint32_t s, uint32_t g, uint32_t record[FOLDGREBE_RECORD_WORDS]);
 
 /* Stores data_words words (11 or 64) as the block, and touches no other block. Refuses 1, 2, 3, 4, 6, 7. */
@@ -116,8 +119,9 @@ uint32_t foldgrebe_ask   (uint32_t record[FOLDGREBE_RECORD_WORDS], uint32_t bloc
    verdict and counts, then the same of the block asked for, or zeros where none waited. Refuses 1, 2, 3, 4, 5. */
 uint32_t foldgrebe_turn  (uint32_t record[FOLDGREBE_RECORD_WORDS], uint32_t *image, size_t words, uint32_t report[FOLDGREBE_REPORT_WORDS]);
 
-/* Writes the image as a file of 9 + 4 * words bytes, from byte 0 of `file` on, and gives its length; the bytes behind it
-   stay as they were, and so does the image. Refuses 1, 2, 3, 4, 11, 12. Refused, it writes no byte, and the length is 0. */
+/* Writes the image as a file of version 2, of 9 + 4 * words bytes, from byte 0 of `file` on, and gives its length; the
+   bytes behind it stay as they were, and so does the image. Refuses 1, 2, 3, 4, 11, 12. Refused, it writes no byte, and the
+   length is 0. */
 uint32_t foldgrebe_file_write (const uint32_t *image, size_t words, uint32_t shape, uint32_t s, uint32_t g, uint8_t *file, size_t bytes,
                                uint32_t written[1]);
 
@@ -125,8 +129,9 @@ uint32_t foldgrebe_file_write (const uint32_t *image, size_t words, uint32_t sha
    as the inspecting program does. */
 uint32_t foldgrebe_file_layout(const uint8_t *file, size_t bytes, uint32_t layout[FOLDGREBE_LAYOUT_WORDS]);
 
-/* Copies the file's words to an image of exactly rows * s * g words, by its own layout, which it tells too; nothing is
-   mended. Refuses as file_layout does, and then 4 where the image is of another length. Refused, the image stays as it was. */
+/* Copies the file's words to an image of exactly rows * s * g words, by its own layout, which it tells too; rows 1 and 2 of
+   a version 1 file are complemented on the way in, and nothing is mended. Refuses as file_layout does, and then 4 where the
+   image is of another length. Refused, the image stays as it was. */
 uint32_t foldgrebe_file_read  (const uint8_t *file, size_t bytes, uint32_t *image, size_t words, uint32_t layout[FOLDGREBE_LAYOUT_WORDS]);
 
 #ifdef __cplusplus

@@ -1,6 +1,7 @@
 /* The server's errand: an image comes home as a file, and goes back mended. It reads the file on standard input, visits every
-   block, and writes the mended image's file to standard output; docs/C.md has the commands. On standard error it says the
-   blocks that are not clean. A lost block goes back as it came. A file that is refused gives `refused N` there, and status 1. */
+   block, and writes the mended image's file to standard output; docs/C.md has the commands. A version 1 file goes back as
+   version 2. On standard error it says the blocks that are not clean. A lost block goes back as it came. A file that is refused
+   gives `refused N` there, and status 1. */
 #include <stdio.h>
 #include <stdlib.h>
 #include "foldgrebe.h"
