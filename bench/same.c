@@ -102,9 +102,10 @@ INLINE uint32_t covered(const uint32_t *row, const uint8_t *list, unsigned n)
 /* Digits 0 and 1 and the parities, from the stored rows by the last two binary digits of their numbers; the parity has both complements. */
 INLINE void look_low(findings *f, uint32_t end_00, uint32_t end_01, uint32_t end_10, uint32_t end_11)
 {
-    f->digit[0] = end_01 ^ end_11 ^ ONES;
-    f->digit[1] = end_10 ^ end_11 ^ ONES;
-    f->odd = end_00 ^ end_01 ^ end_10 ^ end_11;
+    uint32_t first = end_01 ^ end_11, second = end_10 ^ end_11;
+    f->digit[0] = first ^ ONES;
+    f->digit[1] = second ^ ONES;
+    f->odd = first ^ end_00 ^ end_10;
 }
 
 INLINE findings look_16(const uint32_t *row)
@@ -398,8 +399,8 @@ static void take_words(uint32_t *restrict image, const uint8_t *restrict from, s
     }
 }
 
-/* Version 1 had no row complemented. */
-static void complement_rows(uint32_t *image, size_t words, uint32_t shape, uint32_t s)
+/* Version 1 had no row complemented; apart, so that version 2 does not pay for it. */
+static __attribute__((noinline)) void complement_rows(uint32_t *image, size_t words, uint32_t shape, uint32_t s)
 {
     for (size_t at = 0; at < words; at += group_words(shape, s))
         for (size_t k = 0; k < complemented_words(s); k++) image[at + k] ^= ONES;
