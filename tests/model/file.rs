@@ -108,7 +108,7 @@ pub fn refuse_read(file: &[u8], bytes: u64, words: u64) -> u32 {
     }
 }
 
-/// Copies a file's image to the lent one; answers the number, and what the file says of them.
+/// Copies a file's image to the lent one; answers the number, and what the file says of it.
 pub fn read(file: &[u8], bytes: u64, image: &mut [u32], words: u64) -> (u32, Told) {
     let number = refuse_read(file, bytes, words);
     if number != 0 {
