@@ -23,6 +23,15 @@ fn tell(number: u64, holds: bool) {
     }
 }
 
+// Prints whether a dead chip is lost in every lane.
+fn tell_dead(holds: bool) {
+    if holds {
+        io::write_all(STDOUT_FILENO, b"dead chip lost\n");
+    } else {
+        io::write_all(STDOUT_FILENO, b"dead chip NOT LOST\n");
+    }
+}
+
 // Prints how many vectors there were, and how many agree.
 fn tell_vectors() {
     let tally = vectors::run_all();
@@ -61,5 +70,6 @@ fn main() {
     tell_visited();
     tell(12, written::example_12());
     tell_patrolled();
+    tell_dead(visited::dead_chip());
     tell_vectors();
 }

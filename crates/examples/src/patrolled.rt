@@ -60,12 +60,23 @@ fn format_refuses(s: u32, g: u32, number: u32) -> bool {
     formats(&mut image, s, g, &mut record, number) & same(&image, &[7u32; 16])
 }
 
+// Whether an image of shape 1 with s = 16 is fresh: of the 256 words of a group the first 32 are rows 1 and 2.
+fn is_fresh(image: &[u32]) -> bool {
+    for i in 0..image.len() {
+        let word = if i % 256 < 32 { 0xFFFFFFFF } else { 0 };
+        if image[i] != word {
+            return false;
+        }
+    }
+    true
+}
+
 // s = 16, G = 256 accepted; G = 257 refused 3; s = 0 or 17 refused 2.
 pub(crate) fn example_14() -> bool {
     let mut image = [7u32; 65536];
     let mut record = [0u32; RECORD_WORDS];
     formats(&mut image, 16, 256, &mut record, 0)
-        & same(&image, &[0u32; 65536])
+        & is_fresh(&image)
         & format_refuses(16, 257, 3)
         & format_refuses(0, 1, 2)
         & format_refuses(17, 1, 2)

@@ -1,4 +1,4 @@
-// Worked examples 1 to 4 and 12: what a write stores, and where.
+// Worked examples 1 to 4 and 12: what a write stores, and where. Rows 1 and 2 are stored complemented.
 use crate::answers::of_answer;
 use crate::lists::same;
 use crate::lists::scatter;
@@ -8,6 +8,11 @@ use store::Answer;
 const ALL: u32 = 0xFFFFFFFF;
 
 const TOP: u32 = 0x80000000;
+
+// 1 and the topmost bit, complemented.
+const NOT_ONE: u32 = 0xFFFFFFFE;
+
+const NOT_TOP: u32 = 0x7FFFFFFF;
 
 // Whether a write of a block is accepted, and leaves these words of the image.
 fn write_leaves(
@@ -32,23 +37,45 @@ fn leaves_rows(list: [u32; 11], after: [u32; 16]) -> bool {
     write_leaves(&mut image, alone(1), 0, &list, &after)
 }
 
-// Data word 1 = 1: rows 1, 2, 3 and 16 become 1.
+// Data word 1 = 1: rows 1, 2, 3 and 16 become 1, the first two complemented.
 pub(crate) fn example_1() -> bool {
-    let after = [1, 1, 1, 0, 0, 0, 0, 0, 0, 0, 0, 0, 0, 0, 0, 1];
+    let after = [NOT_ONE, NOT_ONE, 1, 0, 0, 0, 0, 0, 0, 0, 0, 0, 0, 0, 0, 1];
     leaves_rows([1, 0, 0, 0, 0, 0, 0, 0, 0, 0, 0], after)
 }
 
-// Data word 11 = 80000000 hex: rows 1, 2, 4, 8, 15 and 16 become that.
+// Data word 11 = 80000000 hex: rows 1, 2, 4, 8, 15 and 16 become that, the first two complemented.
 pub(crate) fn example_2() -> bool {
-    let after = [TOP, TOP, 0, TOP, 0, 0, 0, TOP, 0, 0, 0, 0, 0, 0, TOP, TOP];
+    let after = [
+        NOT_TOP,
+        NOT_TOP,
+        0,
+        TOP,
+        0,
+        0,
+        0,
+        TOP,
+        0,
+        0,
+        0,
+        0,
+        0,
+        0,
+        TOP,
+        TOP,
+    ];
     leaves_rows([0, 0, 0, 0, 0, 0, 0, 0, 0, 0, TOP], after)
 }
 
-// All data FFFFFFFF hex: every row becomes that, in both shapes.
+// All data FFFFFFFF hex: every row becomes that, in both shapes, and rows 1 and 2, complemented, zero.
 pub(crate) fn example_3() -> bool {
     let mut image = [0u32; 72];
-    leaves_rows([ALL; 11], [ALL; 16])
-        & write_leaves(&mut image, alone(2), 0, &[ALL; 64], &[ALL; 72])
+    let mut small = [ALL; 16];
+    small[0] = 0;
+    small[1] = 0;
+    let mut large = [ALL; 72];
+    large[0] = 0;
+    large[1] = 0;
+    leaves_rows([ALL; 11], small) & write_leaves(&mut image, alone(2), 0, &[ALL; 64], &large)
 }
 
 // Whether a write of shape 2 with data word 64 = 1 leaves these words of the image.
@@ -58,11 +85,11 @@ fn last_word_leaves(image: &mut [u32], layout: Layout, block: u32, after: &[u32]
     write_leaves(image, layout, block, &list, after)
 }
 
-// The block of shape 2 for data word 64 = 1: rows 1, 2, 4, 64, 71 and 72 are 1.
+// The block of shape 2 for data word 64 = 1: rows 1, 2, 4, 64, 71 and 72 are 1, the first two complemented.
 fn last_word_rows() -> [u32; 72] {
     let mut rows = [0u32; 72];
-    rows[0] = 1;
-    rows[1] = 1;
+    rows[0] = NOT_ONE;
+    rows[1] = NOT_ONE;
     rows[3] = 1;
     rows[63] = 1;
     rows[70] = 1;
@@ -70,7 +97,7 @@ fn last_word_rows() -> [u32; 72] {
     rows
 }
 
-// Shape 2, data word 64 = 1: rows 1, 2, 4, 64, 71 and 72 become 1.
+// Shape 2, data word 64 = 1: rows 1, 2, 4, 64, 71 and 72 become 1, the first two complemented.
 pub(crate) fn example_4() -> bool {
     let mut image = [0u32; 72];
     last_word_leaves(&mut image, alone(2), 0, &last_word_rows())

@@ -31,7 +31,7 @@ fn refused_files() {
     show(b"short");
     show(b"header-only");
     show(b"version-0");
-    show(b"version-2");
+    show(b"version-3");
     show(b"field-below");
     show(b"field-above");
     show(b"field-swapped");
@@ -62,6 +62,8 @@ fn accepted_files() {
     show(b"shape-2-interleaved");
     show(b"kinds-of-lost");
     show(b"most-blocks");
+    show(b"dead.img");
+    show(b"version-1.img");
 }
 
 fn main() {
