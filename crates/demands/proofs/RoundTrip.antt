@@ -29,7 +29,7 @@ use Rattle.text.specs.Page.{endToEnd}
 use Rattle.report.specs.Report.{imageReport, reportOf}
 use Rattle.report.proofs.OneResult.{one-report}
 use Rattle.demands.specs.RoundTrip.{Read, whole, Wrote, Edge, Most, sampleImage, wordedImage, Headed, renewed}
-use Rattle.demands.specs.RoundTrip.{ReadsBack, WritesAgain, WritesNew, PrintsSame, FileRoundTrip}
+use Rattle.demands.specs.RoundTrip.{Again, Renewed, ReadsBack, WritesRead, PrintsSame, FileRoundTrip}
 use Rattle.demands.specs.Examples.{oldSample, newSample}
 use Rattle.demands.proofs.Files.{accepted-lines, written-file, file-writes}
 
@@ -109,7 +109,7 @@ module _ (bytes : List ℕ) (image buffer : List ℕ) (e : fileRefusal bytes ≡
   past-again : drop (length bytes) after ≡ drop (length bytes) buffer
   past-again = rw (← count-again) (written-file image (layoutIn bytes) buffer w none .2)
 
-again : WritesAgain
+again : WritesRead 2 Again
 again bytes layout image fits version r buffer answer kept after l w =
     let s = stands bytes layout image r in
     let is : image ≡ wordsIn bytes = s .words ∙ rw version in
@@ -143,7 +143,7 @@ printed image layout file w =
 
 -- ---- version 1
 
-new : WritesNew
+new : WritesRead 1 Renewed
 new bytes layout image fits version r buffer answer kept after l w =
     let s = stands bytes layout image r in
     let code = complementedImage (layoutIn bytes) (wordsIn bytes) in

@@ -112,27 +112,21 @@ Headed words layout head = (image file : List ℕ) → length image ≡ words �
 abbrev pub ReadsBack : Type 0
 ReadsBack = (image : List ℕ) (layout : Layout) (file : List ℕ) → Wrote image layout file → Back image layout file
 
-abbrev pub WritesAgain : Type 0
-WritesAgain =
-    (bytes : List ℕ) (layout : Layout) (image : List ℕ) → FittingBytes bytes → versionIn bytes ≡ 2 → Read bytes layout image
+-- of a file with this version, what holds where what was read from it is written
+abbrev pub WritesRead : (version : ℕ) → (List ℕ → List ℕ → Written → List ℕ → Type 0) → Type 0
+WritesRead version Holds =
+    (bytes : List ℕ) (layout : Layout) (image : List ℕ) → FittingBytes bytes → versionIn bytes ≡ version → Read bytes layout image
     → (buffer : List ℕ) (answer : Written) (kept after : List ℕ) → length bytes ≤ length buffer
     → WritesFile image layout buffer answer kept after
-    → Again bytes buffer answer after
-
-abbrev pub WritesNew : Type 0
-WritesNew =
-    (bytes : List ℕ) (layout : Layout) (image : List ℕ) → FittingBytes bytes → versionIn bytes ≡ 1 → Read bytes layout image
-    → (buffer : List ℕ) (answer : Written) (kept after : List ℕ) → length bytes ≤ length buffer
-    → WritesFile image layout buffer answer kept after
-    → Renewed bytes buffer answer after
+    → Holds bytes buffer answer after
 
 abbrev pub PrintsSame : Type 0
 PrintsSame = (image : List ℕ) (layout : Layout) (file : List ℕ) → Wrote image layout file → Printed image layout file
 
 pub record FileRoundTrip : Type 0 where
   pub back : ReadsBack
-  pub again : WritesAgain
-  pub new : WritesNew
+  pub again : WritesRead 2 Again
+  pub new : WritesRead 1 Renewed
   pub printed : PrintsSame
   pub sample : (file : List ℕ) → Wrote sampleImage (layoutOf 1 1 1) file → file ≡ newSample
   pub old-sample : (layout : Layout) (image : List ℕ) → Read oldSample layout image → (layout ≡ layoutOf 1 1 1) × (image ≡ sampleImage)
