@@ -2,7 +2,7 @@
 use Prim.Native.Nat.{ℕ, _+_, _*_, _≤_}
 use mathlib.Core.Path.{_≡_, refl, sym, ap, _∙_}
 use mathlib.Core.List.{List, [], _∷_}
-use lib.ListN.{length, take, drop}
+use lib.ListN.{length, take}
 use Rattle.ground.specs.Choice.{ifZero}
 use Rattle.ground.specs.Rules.{Ruled, InOrder}
 use Rattle.layout.specs.declared.Layout.{Layout}

@@ -130,7 +130,8 @@ module _ (len : ℕ) (layout : Layout) (fits : imageRefusal len layout ≡ 0) wh
 
     pub flip-there : (list : List ℕ) → OffBy 0 image u list → OffBy 1 (flipped at nth image) u list
     flip-there list off l =
-        count-single (rows shape) (diff (lane (u .1) (gathered layout (u .0) (flipped at nth image))) (lane (u .1) (validBlock shape list))) (rowsPast layout at)
+        count-single (rows shape) (diff (lane (u .1) (gathered layout (u .0) (flipped at nth image))) (lane (u .1) (validBlock shape list)))
+        (rowsPast layout at)
         (λ j h ne.
         ap (λ (b : Bool). b ⊕ lane (u .1) (validBlock shape list) (suc j)) (row-kept j h (λ e r f. ne r))
         ∙ empty (rows shape) (diff (lane (u .1) (gathered layout (u .0) image)) (lane (u .1) (validBlock shape list))) (omega (arith, off l)) j h)

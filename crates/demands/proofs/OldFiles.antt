@@ -1,7 +1,7 @@
 -- The report of a file of version 1 is that of its own words by the old rule. Assumes nothing.
 use Prim.Native.Nat.{ℕ, zero, suc, _≤_, _<_}
 use mathlib.Core.Path.{_≡_, refl, sym, ap, ap₂, _∙_}
-use mathlib.Core.List.{List, [], _∷_, _++_}
+use mathlib.Core.List.{List}
 use native.Mathlib.Omega.{arith}
 use lib.ListN.{length}
 use Rattle.shape.proofs.Sizes.{rows-fit}
@@ -16,11 +16,11 @@ use Rattle.block.specs.Block.{mendedBlock}
 use Rattle.block.specs.declared.Verdict.{Verdict}
 use Rattle.block.specs.Verdict.{verdictOf}
 use Rattle.block.proofs.Blocks.{length-mended}
-use Rattle.store.specs.Image.{storedRows, withRows, gathered, placed}
+use Rattle.store.specs.Image.{storedRows, gathered}
 use Rattle.store.specs.Visit.{visitAfter}
 use Rattle.store.proofs.Image.{length-rows}
 use Rattle.store.proofs.StoredImages.{gathered-complemented, placed-complemented}
-use Rattle.file.specs.Bytes.{versionIn, layoutIn, wordsIn, imageIn}
+use Rattle.file.specs.Bytes.{layoutIn, wordsIn, imageIn}
 use Rattle.file.proofs.Ladder.{header-image}
 use Rattle.file.proofs.Layouts.{length-words, words-layout}
 use Rattle.text.specs.Page.{endToEnd}
@@ -79,7 +79,8 @@ module _ (words : List ℕ) (layout : Layout) (passed : imageRefusal (length wor
           unfold visitAfter oldVisit in
           (let long : length (mendedBlock (shapeOf layout) (storedRows layout n (old n))) ≡ 72 =
           length-mended (shapeOf layout) (storedRows layout n (old n)) ∙ length-rows layout n (old n) in
-          rw (length-image layout (old n), size, block-accepted layout (length words) n passed h, gathered-complemented layout first n (old n) (inside n h size))
+          let found = gathered-complemented layout first n (old n) (inside n h size) in
+          rw (length-image layout (old n), size, block-accepted layout (length words) n passed h, found)
           (placed-complemented layout first n _ (old n) (omega (arith, long, rows-fit (shapeOf layout)))))
 
   verdict-as : (n : ℕ) → n < blocks layout → verdictAt image layout n ≡ oldVerdict words layout n

@@ -1,9 +1,9 @@
 -- What is stored, row by row; and a dead chip is lost in all 32 lanes, which are even. Assumes nothing.
-use Prim.Native.Nat.{ℕ, zero, suc, _+_, _^_, _≤_, _<_}
+use Prim.Native.Nat.{ℕ, zero, suc, _≤_, _<_}
 use mathlib.Core.Bool.{Bool, true, false}
 use mathlib.Core.Path.{_≡_, refl, sym, ap, ap₂, _∙_}
 use mathlib.Core.List.{List, [], _∷_}
-use mathlib.Core.Logic.{_⊎_, inl, inr, ⊎-elim}
+use mathlib.Core.Logic.{inl, inr, ⊎-elim}
 use native.Mathlib.Omega.{arith}
 use lib.Bits.{bitXor}
 use lib.Dec.{lit<}
@@ -12,10 +12,9 @@ use lib.Pow.{pow-pos}
 use borrow.Author.Tests.{le-leb, lt-leb}
 use Rattle.ground.specs.Totals.{total}
 use Rattle.ground.proofs.Totals.{total-same}
-use Rattle.ground.specs.Choice.{ifZero}
 use Rattle.lane.specs.Bit.{bit, pick}
 use Rattle.lane.specs.Lane.{sum, count, odd}
-use Rattle.lane.specs.Decision.{Kind, even, beyond, decide, lostAs?}
+use Rattle.lane.specs.Decision.{even, beyond}
 use Rattle.lane.proofs.Bits.{bit-zero}
 use Rattle.lane.proofs.Linear.{sum-same, count-same}
 use Rattle.lane.proofs.Rows.{split-below}
@@ -27,14 +26,13 @@ use Rattle.shape.proofs.Sizes.{rows-fit}
 use Rattle.sums.specs.Words.{lane}
 use Rattle.sums.proofs.StoredSums.{bit-ones, sum-complemented, odd-complemented}
 use Rattle.layout.specs.declared.Layout.{Layout}
-use Rattle.layout.specs.Layout.{shapeOf, rowsOf, blocks, index, rowAt}
-use Rattle.layout.specs.Refusal.{imageRefusal, blockRefusal}
+use Rattle.layout.specs.Layout.{shapeOf, rowsOf, blocks, index}
+use Rattle.layout.specs.Refusal.{imageRefusal}
 use Rattle.layout.proofs.Index.{in-range}
 use Rattle.layout.proofs.Ladder.{geometry, image-layout, image-exact, block-image, accepted}
 use Rattle.stored.specs.Stored.{mask, complementedIn, complemented, complementedImage}
 use Rattle.stored.proofs.Forms.{word-past, row-complemented, rest-complemented, complemented-twice, word-image, image-twice}
 use Rattle.block.specs.Block.{lanesLost, lanesLostAs, bitsChanged, mendedBlock, Fitting}
-use Rattle.block.specs.declared.Verdict.{Verdict}
 use Rattle.block.specs.declared.Verdict.the-variants.{Lost}
 use Rattle.block.specs.Verdict.{Said, saidOf, verdict, verdictOf}
 use Rattle.block.proofs.Told.{few-lost, kinds-lost}
@@ -43,24 +41,23 @@ use Rattle.store.specs.declared.Answer.the-variants.{Found}
 use Rattle.store.specs.Answer.{answerNumber, answerSaid}
 use Rattle.store.specs.Fresh.{freshWord, freshImage, freshAfter}
 use Rattle.store.specs.Image.{storedRows, gathered}
-use Rattle.store.specs.Read.{Reads, readAnswer, readBuffer}
+use Rattle.store.specs.Read.{Reads}
 use Rattle.store.specs.Visit.{Visits, visitAnswer, visitAfter}
 use Rattle.store.proofs.Image.{length-rows, rows-row}
-use Rattle.store.proofs.Promises.{visits, visits-answer, reads-answer}
+use Rattle.store.proofs.Promises.{visits, visits-answer}
 use Rattle.store.proofs.StoredImages.{row-at-index}
 use Rattle.rota.specs.Line.{asksOf}
 use Rattle.patrol.specs.declared.Record.{Record}
 use Rattle.patrol.specs.declared.Formatted.{Formatted}
 use Rattle.patrol.specs.declared.Turned.{Turned}
 use Rattle.patrol.specs.Format.{Formats}
-use Rattle.patrol.specs.Numbers.{Seen, reportNumber, reportFirst, reportSecond}
+use Rattle.patrol.specs.Numbers.{reportNumber, reportFirst, reportSecond}
 use Rattle.patrol.specs.Turn.{Turns}
-use Rattle.report.specs.Report.{visitedBelow, verdictAt}
 use Rattle.report.proofs.Visited.{verdict-read}
 use Rattle.ground.proofs.Lists.{getD-listOf}
 use Rattle.demands.specs.Demand2.{LaneLostAs, Turning}
 use Rattle.demands.specs.StoredForm.{RowIn, Dead, LostWhole, StoredForm}
-use Rattle.demands.proofs.Numbers.{visit-number, read-number}
+use Rattle.demands.proofs.Numbers.{visit-number}
 use Rattle.demands.proofs.Demand2.{demand-2}
 
 -- ---- rows

@@ -24,7 +24,8 @@ pub record FileRefusing (bytes : List ℕ) (header : Header) : Type 1 where
   pub named : NoneOf (fileRules bytes) → headerLayout header ≡ layoutIn bytes
   pub bare : (headerNumber header ≡ 0 → ⊥) → headerLayout header ≡ layoutOf 0 0 0
 
--- reading a file into an image: likewise, with the image's length; the image is the one that the file holds where no rule applies, and else stays; the file stays
+-- reading a file into an image: likewise, with the image's length; the image is the one that the file holds where no rule applies, and else stays;
+-- the file stays
 pub record FileReading (bytes image : List ℕ) (header : Header) (kept after : List ℕ) : Type 1 where
   pub ruled : InOrder (readRules bytes (length image)) (headerNumber header)
   pub read : NoneOf (readRules bytes (length image)) → (headerLayout header ≡ layoutIn bytes) × (after ≡ imageIn bytes)

@@ -15,7 +15,7 @@ use Rattle.layout.specs.Reason.{badLength}
 use Rattle.layout.proofs.Ladder.{length-rung}
 use Rattle.file.specs.declared.Header.{Header}
 use Rattle.file.specs.declared.Header.the-variants.{Refused, Image}
-use Rattle.file.specs.Bytes.{versionIn, layoutIn, wordCount, wordsIn, imageIn}
+use Rattle.file.specs.Bytes.{versionIn, layoutIn, wordCount, imageIn}
 use Rattle.file.specs.Inner.{wordsInto}
 use Rattle.file.specs.Refusal.{fileRefusal, readRefusal}
 use Rattle.file.specs.Reason.{fileRules, readRules}

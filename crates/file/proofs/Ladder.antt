@@ -13,7 +13,8 @@ use Rattle.layout.specs.declared.Layout.{Layout}
 use Rattle.layout.specs.Layout.{rowsOf, blocks}
 use Rattle.ground.specs.Ladder.{_then_}
 use Rattle.ground.specs.Rules.{Rule, FirstOf}
-use Rattle.ground.proofs.Ladder.{Rung, rung-test, rung-below, rung-neither, rung-passed, one-or-two, then-first, then-assoc, then-zero, first-more, first-front, test-passed}
+use Rattle.ground.proofs.Ladder.{Rung, rung-test, rung-below, rung-neither, rung-passed, one-or-two, then-first, then-assoc, then-zero}
+use Rattle.ground.proofs.Ladder.{first-more, first-front, test-passed}
 use Rattle.layout.specs.Refusal.{layoutRefusal, imageRefusal}
 use Rattle.layout.specs.Reason.{layoutRules}
 use Rattle.layout.proofs.Ladder.{Geometry, geometry, layout-first}

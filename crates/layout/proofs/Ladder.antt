@@ -11,7 +11,8 @@ use borrow.Author.Tests.{eq-eqb, ne-eqb, eqb-false, eqb-true, ltb-false, ltb-tru
 use lib.Dec.{ltb, leb, eqb}
 use Rattle.shape.proofs.Sizes.{rows-fit}
 use Rattle.ground.specs.Rules.{FirstOf}
-use Rattle.ground.proofs.Ladder.{Rung, rung-test, rung-tests, rung-neither, rung-passed, then-assoc, then-zero, first-more, not-zero, not-above, one-or-two, not-other}
+use Rattle.ground.proofs.Ladder.{Rung, rung-test, rung-tests, rung-neither, rung-passed, then-assoc, then-zero, first-more}
+use Rattle.ground.proofs.Ladder.{not-zero, not-above, one-or-two, not-other}
 use Rattle.layout.specs.declared.Layout.{Layout}
 use Rattle.layout.specs.Layout.{shapeOf, rowsOf, blocks}
 use Rattle.layout.specs.Refusal.{shapeRung, interleaveRung, groupsRung, lengthRung, blockRung, layoutRefusal, imageRefusal, blockRefusal}

@@ -157,7 +157,8 @@ end-to-end-last (first ∷ lines) line =
     omega (arith, end-to-end-last lines line)
 
 blocks-short : (image : List ℕ) (layout : Layout) (n : ℕ) → n ≤ 511
-    → length (endToEnd (blockLines (verdictAt image layout) n)) + 2 * tallyBelow (verdictAt image layout) n .clean ≤ 18 * n + besides (shapeOf layout) n + (n - 10) + (n - 100)
+    → length (endToEnd (blockLines (verdictAt image layout) n)) + 2 * tallyBelow (verdictAt image layout) n .clean
+    ≤ 18 * n + besides (shapeOf layout) n + (n - 10) + (n - 100)
 unfolding blockLines tallyBelow endToEnd verdictAt
 blocks-short image layout zero h = omega arith
 blocks-short image layout (suc n) h =

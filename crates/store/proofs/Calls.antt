@@ -11,7 +11,7 @@ use Rattle.block.specs.declared.Verdict.the-variants.{Clean, Lost}
 use Rattle.shape.specs.Shape.{rows, words, dataRowsOf}
 use Rattle.sums.specs.Words.{row}
 use Rattle.ground.proofs.Stores.{length-stores, stores-hit}
-use Rattle.block.specs.Block.{blank, validBlock, mendedBlock, dataInto, dataOf}
+use Rattle.block.specs.Block.{validBlock, mendedBlock, dataInto, dataOf}
 use Rattle.block.specs.Verdict.{verdictOf}
 use Rattle.ground.proofs.Lists.{list-is}
 use Rattle.store.specs.declared.Answer.{Answer}

@@ -4,7 +4,7 @@ use mathlib.Core.Path.{_≡_, refl, sym, ap, _∙_}
 use mathlib.Core.List.{List}
 use mathlib.Core.Logic.{⊎-elim}
 use native.Mathlib.Omega.{arith}
-use lib.Bits.{bitXor, xor-self}
+use lib.Bits.{xor-self}
 use lib.ListN.{length, getD, replicate, length-replicate, List·getD-eq-default}
 use lib.Pow.{pow-pos}
 use Rattle.ground.specs.Lists.{listOf}

@@ -183,7 +183,8 @@ module _ (layout : Layout) (block : ℕ) where
           (λ k h. elim (decLt k (rowsOf layout)) [
             | yes l ↦ rows-row layout block (withRows layout block given image) k l
                 ∙ unfold withRows in stores-hit image (λ k. index layout block (suc k)) (λ k. getD given k 0) k (rowsOf layout)
-                (λ j hj e. let q = one-to-one (rowsOf layout) (layout .s) first block (suc k) block (suc j) (omega arith) l (omega arith) hj e .1 in omega arith)
+                (λ j hj e.
+                let q = one-to-one (rowsOf layout) (layout .s) first block (suc k) block (suc j) (omega arith) l (omega arith) hj e .1 in omega arith)
                 l
                 (inside (suc k) (omega arith) l)
             | no l ↦ rows-rest layout block (withRows layout block given image) k (omega arith) ∙ sym (rest k (omega arith))

@@ -6,7 +6,7 @@ use mathlib.Core.List.{List}
 use native.Mathlib.Omega.{arith}
 use lib.ListN.{length, getD}
 use Rattle.lane.specs.Bit.{bit, _⊕_}
-use Rattle.lane.specs.Lane.{diff, apart}
+use Rattle.lane.specs.Lane.{apart}
 use Rattle.lane.proofs.Bits.{bit-xor, ⊕-swap, ⊕-zero}
 use Rattle.lane.proofs.Linear.{count-same}
 use Rattle.lane.proofs.Mended.{⊕-self}

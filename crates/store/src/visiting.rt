@@ -2,7 +2,7 @@
 ghost use mathlib.Core.Path.{_≡_};
 ghost use lib.ListN.{length};
 ghost use Rattle.shape.specs.Shape.{rows};
-ghost use Rattle.block.specs.Block.{blank, mendedBlock};
+ghost use Rattle.block.specs.Block.{mendedBlock};
 ghost use Rattle.block.specs.Verdict.{verdictOf};
 ghost use Rattle.sums.specs.Sums.{sumsOf};
 ghost use Rattle.store.specs.Inner.{Inside, taken, put};

@@ -1,7 +1,7 @@
 -- The stored form is its own inverse, keeps words words, and changes rows 1 and 2 alone. Assumes nothing.
-use Prim.Native.Nat.{ℕ, zero, suc, _^_, _≤_, _<_}
+use Prim.Native.Nat.{ℕ, suc, _^_, _≤_, _<_}
 use mathlib.Core.Bool.{Bool, true, false, cond}
-use mathlib.Core.Path.{_≡_, refl, sym, ap, _∙_}
+use mathlib.Core.Path.{_≡_, sym, ap, _∙_}
 use mathlib.Core.List.{List}
 use mathlib.Core.Logic.{⊎-elim}
 use native.Mathlib.Omega.{arith}
@@ -13,8 +13,7 @@ use lib.Seq.{ext-getD}
 use borrow.Author.Tests.{lt-leb}
 use Rattle.lane.proofs.Bits.{xor-assoc}
 use Rattle.lane.proofs.Rows.{split-below}
-use Rattle.ground.specs.Lists.{listOf}
-use Rattle.ground.proofs.Lists.{length-listOf, getD-listOf, list-is}
+use Rattle.ground.proofs.Lists.{length-listOf, getD-listOf}
 use Rattle.layout.specs.declared.Layout.{Layout}
 use Rattle.layout.specs.Layout.{rowAt}
 use Rattle.stored.specs.Stored.{ones, mask, complementedIn, complemented, complementedImage}

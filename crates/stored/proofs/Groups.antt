@@ -1,6 +1,6 @@
 -- Rows 1 and 2 come first in each group: complementing the first words of every group complements the image. Assumes nothing.
 use Prim.Native.Nat.{ℕ, zero, suc, _+_, _-_, _*_, _/_, _%_, _≤_, _<_}
-use mathlib.Core.Bool.{Bool, true, false, cond}
+use mathlib.Core.Bool.{cond}
 use mathlib.Core.Path.{_≡_, refl, sym, ap, _∙_}
 use mathlib.Core.List.{List, [], _∷_}
 use native.Mathlib.Decide.{decLt}
@@ -8,11 +8,10 @@ use native.Mathlib.Nat.{add-mul, mul-le-mul-right, mul-comm, mul-right-comm, mul
 use native.Mathlib.Omega.{arith}
 use lib.Arith.{digits-mod}
 use lib.Bits.{bitXor, xor-zero-r}
-use lib.Dec.{ltb, leb, lit≤}
+use lib.Dec.{ltb, lit≤}
 use lib.ListN.{length, getD, set}
 use lib.Seq.{set-getD}
 use borrow.Author.Tests.{lt-ltb, le-ltb, le-leb, lt-leb}
-use Rattle.ground.specs.Choice.{ifZero}
 use Rattle.ground.specs.Lists.{listOf}
 use Rattle.ground.specs.Stores.{stores}
 use Rattle.ground.proofs.Choices.{refused-kept}

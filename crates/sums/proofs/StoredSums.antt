@@ -1,5 +1,5 @@
 -- The sums of the code's block, from those of the stored one: digits 0 and 1 are complemented in every lane, and nothing else. Assumes nothing.
-use Prim.Native.Nat.{ℕ, zero, suc, _≤_, _<_}
+use Prim.Native.Nat.{ℕ, suc, _≤_, _<_}
 use mathlib.Core.Bool.{Bool, true, false, cond}
 use mathlib.Core.Path.{_≡_, refl, sym, ap, ap₂, _∙_}
 use mathlib.Core.List.{List, [], _∷_}
@@ -16,7 +16,7 @@ use Rattle.shape.specs.declared.Shape.the-variants.{One, Two}
 use Rattle.shape.specs.Shape.{before, rows}
 use Rattle.stored.specs.Stored.{ones, mask, complemented}
 use Rattle.stored.proofs.Forms.{row-complemented}
-use Rattle.sums.specs.Words.{row, lane, number, word}
+use Rattle.sums.specs.Words.{lane, number, word}
 use Rattle.sums.specs.Sums.{sumsOf}
 use Rattle.sums.proofs.WordBits.{number-lt, number-bits, number-same, bit-number}
 use Rattle.sums.proofs.RowSums.{same-eight}

@@ -1,5 +1,5 @@
 -- `stored::complement_image` meets its contract. The loop's invariant: the groups before the place are done. Assumes nothing.
-use Prim.Native.Nat.{ℕ, _-_, _≤_}
+use Prim.Native.Nat.{_-_, _<_}
 use mathlib.Core.Path.{_≡_, refl, sym, ap, _∙_}
 use native.Mathlib.Omega.{arith}
 use borrow.Author.Needs.{needs}
@@ -60,7 +60,9 @@ loop-again : tie.Need-loop-again Inv-loop μ-loop
 loop-again c =
     let l = c .before .before .before .before .before .loop in
     let done = c .before .before .complement-words in
-    (group-done _ _ _ (l .inv .0) (rw (← l .inv .1) (c .before .before .before .before .loop-test .taken)) (done .ensures), ap length (done .ensures) ∙ length-stores _ _ _ _ ∙ l .inv .1)
+    let more : l .at < length (c .before .before .before .before .before .before .before .before .before .before .before .args .image .now) =
+    rw (← l .inv .1) (c .before .before .before .before .loop-test .taken) in
+    (group-done _ _ _ (l .inv .0) more (done .ensures), ap length (done .ensures) ∙ length-stores _ _ _ _ ∙ l .inv .1)
 
 same-length : tie.Need-same-length Inv-loop μ-loop
 same-length c = c .before .loop .inv .1

@@ -1,13 +1,11 @@
 -- `stored::complement_words` meets its contract. The loop's invariant: the first k words are complemented. Assumes nothing.
-use Prim.Native.Nat.{ℕ, _-_, _≤_}
-use mathlib.Core.Path.{_≡_, refl, ap, _∙_}
+use Prim.Native.Nat.{_-_, _≤_}
+use mathlib.Core.Path.{_≡_, refl}
 use native.Mathlib.Numerals.{add-one}
 use native.Mathlib.Omega.{arith}
 use borrow.Author.Needs.{needs}
-use lib.Bits.{bitXor}
 use lib.ListN.{length, length-set}
 use Rattle.ground.specs.Stores.{stores}
-use Rattle.stored.specs.Stored.{ones}
 use Rattle.stored.proofs.Groups.{flippedRun, next-kept}
 use Rattle.stored.proofs.complement_words.Statement.{statement}
 use Rattle.stored.proofs.complement_words.Tie as tie

@@ -21,9 +21,10 @@ returns c =
     let columns = ended .before .before in
     let known = columns .before .before .before .before in
     let args = known .before .args in
-    let are = code-sums Two _ (length-lying Two (args .words .now) (args .at) 1) (beside-sums (args .words .now) (args .at) (λ k. omega (arith, known .shared-slice-known .given k)) (columns .columns .ensures .0)
+    let plain = beside-sums (args .words .now) (args .at) (λ k. omega (arith, known .shared-slice-known .given k)) (columns .columns .ensures .0)
     (columns .columns .ensures .1 .0) (columns .columns .ensures .1 .1) (ended .with-ends .ensures) (first .across .ensures) (second .across2 .ensures)
-    (third .across3 .ensures) (fourth .across4 .ensures)) in
+    (third .across3 .ensures) (fourth .across4 .ensures) in
+    let are = code-sums Two _ (length-lying Two (args .words .now) (args .at) 1) plain in
     (c .eight .ensures .0 ∙ ap (anyOf 8) are, c .eight .ensures .1 ∙ ap (ifZero (c .eight .result) (args .sums .now)) are)
 
 pub sums-beside-spec : {M : Type 1} → statement M

@@ -11,22 +11,26 @@ use Rattle.report.proofs.reporting.report_file.Statement.{statement}
 use Rattle.report.proofs.reporting.report_file.Tie as tie
 
 -- the words that are lent on
-counted : (c : tie.After-least) → let a = c .before .before .before .before .before .args in
-    (c .least .result ≡ min (wordCount (length (a .bytes .now))) (length (a .image .now))) × (length (take (c .least .result) (a .image .now)) ≡ c .least .result)
-counted c =
-    let a = c .before .before .before .before .before .args in
-    let least : c .least .result ≡ min (wordCount (length (a .bytes .now))) (length (a .image .now)) =
-    c .least .ensures ∙ ap (λ (n : ℕ). min n (length (a .image .now))) (c .before .word-count .ensures) in
-    (least, length-take-le (c .least .result) (a .image .now) (omega (arith, least, min-le-right (wordCount (length (a .bytes .now))) (length (a .image .now)))))
+module _ (c : tie.After-least) where
+  abbrev start : tie.Start
+  start = c .before .before .before .before .before
+
+  abbrev most : ℕ
+  most = wordCount (length (start .args .bytes .now))
+
+  counted : c .least .result ≡ min most (length (start .args .image .now))
+  counted = c .least .ensures ∙ ap (λ (n : ℕ). min n (length (start .args .image .now))) (c .before .word-count .ensures)
+
+  lent : length (take (c .least .result) (start .args .image .now)) ≡ c .least .result
+  lent = length-take-le (c .least .result) (start .args .image .now) (omega (arith, counted, min-le-right most (length (start .args .image .now))))
 
 slice-aggregate-report-read : tie.Need-slice-aggregate-report-read
-slice-aggregate-report-read c = sym (counted (c .before) .1)
+slice-aggregate-report-read c = sym (lent (c .before))
 
 returns : tie.Need-returns
 returns c =
-    let lent = counted (c .before .before .before .before .before .before .before) in
-    let a = c .before .before .before .before .before .before .before .before .before .before .before .before .args in
-    rw (← lent .0) (rw (lent .1) at (c .before .before .before .before .report-read .ensures))
+    let least = c .before .before .before .before .before .before .before in
+    rw (← counted least) (rw (lent least) at (c .before .before .before .before .report-read .ensures))
 
 pub report-file-spec : {M : Type 1} → statement M
 report-file-spec =
