@@ -3,3 +3,4 @@ pub mod Followed
 pub mod Running
 pub mod Demands
 pub mod Files
+pub mod Stored

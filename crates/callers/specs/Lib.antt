@@ -1,3 +1,4 @@
 pub mod Handing
 pub mod Demands
 pub mod Files
+pub mod Stored

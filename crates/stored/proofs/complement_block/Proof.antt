@@ -1,5 +1,6 @@
 -- `stored::complement_block` meets its contract. Assumes nothing.
-use mathlib.Core.Path.{_≡_}
+use Prim.Native.Nat.{ℕ}
+use mathlib.Core.Path.{_≡_, ap, _∙_}
 use native.Mathlib.Omega.{arith}
 use lib.Bits.{bitXor}
 use lib.ListN.{getD, set}
@@ -27,7 +28,7 @@ returns c =
     let block = c .before .before .args .block in
     let other : getD (set (block .now) 0 (bitXor (getD (block .now) 0 0) ones)) 1 0 ≡ getD (block .now) 1 0 =
     getD-set-other (block .now) 0 1 _ 0 (λ e. omega arith) in
-    rw other (two-rows (block .now))
+    ap (λ (w : ℕ). set (set (block .now) 0 (bitXor (getD (block .now) 0 0) ones)) 1 (bitXor w ones)) other ∙ two-rows (block .now)
 
 pub complement-block-spec : {M : Type 1} → statement M
 complement-block-spec =

@@ -1,5 +1,5 @@
 -- `layout::Layout::group_words` meets its contract: the product of the rows and the interleave is small. Assumes nothing.
-use Prim.Native.Nat.{ℕ, _*_}
+use Prim.Native.Nat.{ℕ, _*_, _≤_}
 use mathlib.Core.Path.{_≡_, ap, _∙_}
 use native.Mathlib.Nat.{mul-le-mul-right}
 use native.Mathlib.Omega.{arith}
@@ -22,10 +22,12 @@ cast-result c = search needs
 height : (c : tie.After-rows) → c .rows .result ≡ rowsOf (c .before .before .args .self)
 height c = c .rows .ensures ∙ ap rows (c .before .shape-of .ensures)
 
+-- a shape's rows times any number of 32 bits is small
 mul-result : tie.Need-mul-result
 mul-result c =
     let self = c .before .before .before .args .self in
-    rw (height (c .before)) (omega (arith, mul-le-mul-right (self .s) (rows-fit (shapeOf self))))
+    let times : (n : ℕ) → rowsOf self * n ≤ 72 * n = λ n. mul-le-mul-right n (rows-fit (shapeOf self)) in
+    rw (height (c .before)) (omega (arith, times (self .s), times (self .g)))
 
 returns : tie.Need-returns
 returns c = ap (λ (n : ℕ). n * c .before .before .before .args .self .s) (height (c .before))

@@ -1,0 +1,33 @@
+-- What a caller in C finds in the words that are lent: ones in rows 1 and 2 of every block after a format and zero elsewhere, and of an image that
+-- reads all zeros or all ones lost 32 0. Assumes nothing.
+use Prim.Native.Nat.{ℕ, _≤_, _<_}
+use mathlib.Core.Path.{_≡_}
+use mathlib.Core.List.{List, [], _∷_}
+use lib.ListN.{length, getD, take}
+use Rattle.layout.specs.declared.Layout.{Layout}
+use Rattle.layout.specs.Layout.{index}
+use Rattle.words.specs.Records.{recordOf}
+use Rattle.foldgrebe.specs.Calls.{ReadCall, VisitCall, FormatCall, TurnCall}
+use Rattle.demands.specs.StoredForm.{RowIn, Dead}
+use Rattle.words.specs.Answers.{visitWidth}
+
+-- the three words of a verdict: lost, 32 lanes even, none beyond the rows
+abbrev pub lostWhole : List ℕ
+lostWhole = 3 ∷ 32 ∷ 0 ∷ []
+
+pub record CallerStored : Type 0 where
+  pub fresh-ones : {image after words : List ℕ} {layout : Layout} {number : ℕ} → FormatCall image layout number after words
+      → (block p : ℕ) → RowIn image layout block p → p ≤ 2 → getD after (index layout block p) 0 ≡ 0xFFFFFFFF
+  pub fresh-zeros : {image after words : List ℕ} {layout : Layout} {number : ℕ} → FormatCall image layout number after words
+      → (block p : ℕ) → RowIn image layout block p → 2 < p → getD after (index layout block p) 0 ≡ 0
+  pub dead-visit : {image after verdict : List ℕ} {layout : Layout} {block number : ℕ} → Dead (length image) image
+      → VisitCall image layout block number after verdict
+      → number ≡ 0
+      → (verdict ≡ lostWhole) × (after ≡ image)
+  pub dead-read : {image buffer kept after verdict : List ℕ} {layout : Layout} {block number : ℕ} → Dead (length image) image
+      → ReadCall image layout block buffer number kept after verdict
+      → number ≡ 0
+      → (verdict ≡ lostWhole) × (kept ≡ image) × (after ≡ buffer)
+  pub dead-turn : {lent image words after report : List ℕ} {number : ℕ} → Dead (length image) image → TurnCall lent image number words after report
+      → number ≡ 0
+      → (take visitWidth report ≡ recordOf lent .rota .next ∷ lostWhole) × (after ≡ image)
