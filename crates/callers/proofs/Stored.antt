@@ -1,10 +1,11 @@
 -- What is stored, and of a dead image, for a caller in C. Assumes nothing.
 use Prim.Native.Nat.{ℕ}
-use mathlib.Core.Path.{_≡_, refl, sym, ap, _∙_}
+use mathlib.Core.Path.{_≡_, refl, sym, ap, subst, _∙_}
 use mathlib.Core.List.{List, _∷_}
 use lib.ListN.{length}
 use Rattle.layout.specs.declared.Layout.{Layout}
 use Rattle.block.specs.Verdict.{Said, saidWords}
+use Rattle.store.specs.Visit.{visitAfter}
 use Rattle.store.proofs.Promises.{reads, visits}
 use Rattle.patrol.specs.Format.{Formats, formatted}
 use Rattle.patrol.proofs.Promises.{formats, turns}
@@ -49,5 +50,14 @@ caller-stored =
           let d = stored-form .dead-turn r image _ _ dead w (sym (turn-said c .0) ∙ z) in
           let v : VisitCall image (r .layout) (r .rota .next) _ _ _ = record { answers = refl; leaves = refl; says = refl } in
           let t = caller-demand-2 .turn c z v in
-          (t .first ∙ ap (λ (said : List ℕ). r .rota .next ∷ said) (dead-visited dead v (t .accepted) .0), c .leaves ∙ sym (w .leaves) ∙ d .2);
+          let first = dead-visited dead v (t .accepted) in (
+            t .first ∙ ap (λ (said : List ℕ). r .rota .next ∷ said) (first .0),
+            λ block rest e.
+                let still = subst (λ (l : List ℕ). Dead (length l) l) (sym (first .1)) dead in
+                let u : VisitCall (visitAfter image (r .layout) (r .rota .next)) (r .layout) block _ _ _ =
+                record { answers = refl; leaves = refl; says = refl } in
+                let a = t .asked block rest e u in
+                a .1 ∙ ap (λ (said : List ℕ). block ∷ said) (dead-visited still u (a .0) .0),
+            c .leaves ∙ sym (w .leaves) ∙ d .2,
+          );
     }

@@ -41,7 +41,7 @@ pub record CallerFiles : Type 1 where
       → CallerRefusing (InOrder (fileRules bytes)) number ((kept ≡ bytes) × (words ≡ 0 ∷ 0 ∷ 0 ∷ []))
   pub read : {bytes image kept after words : List ℕ} {number : ℕ} → FileReadCall bytes image number kept after words
       → CallerRefusing (InOrder (readRules bytes (length image))) number ((kept ≡ bytes) × (after ≡ image) × (words ≡ 0 ∷ 0 ∷ 0 ∷ []))
-  -- accepted, what is written is the image's file, and what is told and read stands in the bytes, which stay
+  -- accepted, what is written is the image's file, what is told stands in the bytes, which stay, and what is read is the image that they hold
   pub wrote : {image buffer kept after written : List ℕ} {layout : Layout} {number : ℕ} → FileWriteCall image layout buffer number kept after written
       → number ≡ 0
       → CallerWrote image layout buffer kept after written

@@ -3,9 +3,10 @@
 use Prim.Native.Nat.{ℕ, _≤_, _<_}
 use mathlib.Core.Path.{_≡_}
 use mathlib.Core.List.{List, [], _∷_}
-use lib.ListN.{length, getD, take}
+use lib.ListN.{length, getD, take, drop}
 use Rattle.layout.specs.declared.Layout.{Layout}
 use Rattle.layout.specs.Layout.{index}
+use Rattle.rota.specs.Line.{asksOf}
 use Rattle.words.specs.Records.{recordOf}
 use Rattle.foldgrebe.specs.Calls.{ReadCall, VisitCall, FormatCall, TurnCall}
 use Rattle.demands.specs.StoredForm.{RowIn, Dead}
@@ -30,4 +31,6 @@ pub record CallerStored : Type 0 where
       → (verdict ≡ lostWhole) × (kept ≡ image) × (after ≡ buffer)
   pub dead-turn : {lent image words after report : List ℕ} {number : ℕ} → Dead (length image) image → TurnCall lent image number words after report
       → number ≡ 0
-      → (take visitWidth report ≡ recordOf lent .rota .next ∷ lostWhole) × (after ≡ image)
+      → (take visitWidth report ≡ recordOf lent .rota .next ∷ lostWhole)
+      × ((block : ℕ) (rest : List ℕ) → asksOf (recordOf lent .rota .line) ≡ block ∷ rest → drop visitWidth report ≡ block ∷ lostWhole)
+      × (after ≡ image)

@@ -2,6 +2,7 @@
 use Prim.Native.Nat.{ℕ, zero, suc, _≤_, _<_}
 use mathlib.Core.Path.{_≡_, refl, sym, ap, ap₂, _∙_}
 use mathlib.Core.List.{List}
+use mathlib.Core.Logic.{inl, inr, ⊎-elim}
 use native.Mathlib.Omega.{arith}
 use lib.ListN.{length}
 use Rattle.shape.proofs.Sizes.{rows-fit}
@@ -20,15 +21,17 @@ use Rattle.store.specs.Image.{storedRows, gathered}
 use Rattle.store.specs.Visit.{visitAfter}
 use Rattle.store.proofs.Image.{length-rows}
 use Rattle.store.proofs.StoredImages.{gathered-complemented, placed-complemented}
-use Rattle.file.specs.Bytes.{layoutIn, wordsIn, imageIn}
+use Rattle.ground.specs.Rules.{NoneOf, FirstGiven}
+use Rattle.file.specs.Bytes.{versionIn, layoutIn, wordsIn, imageIn}
+use Rattle.file.specs.Reason.{badVersion, fileRules}
 use Rattle.file.proofs.Ladder.{header-image}
 use Rattle.file.proofs.Layouts.{length-words, words-layout}
 use Rattle.text.specs.Page.{endToEnd}
 use Rattle.report.specs.Lines.{counted}
 use Rattle.report.specs.Report.{visitedBelow, verdictAt, blockLines, tallyBelow, linesBy, imageReport}
 use Rattle.report.proofs.Visited.{length-visited}
-use Rattle.demands.specs.OldFiles.{oldVisit, oldVisited, oldVerdict, oldReport, OldPrinted}
-use Rattle.demands.proofs.Files.{file-in-order, accepted-lines}
+use Rattle.demands.specs.OldFiles.{oldVisit, oldVisited, oldVerdict, oldReport, oldRules, OldPrinted}
+use Rattle.demands.proofs.Files.{file-in-order, file-reported}
 
 -- lines and tally are told by the verdicts below the number of blocks
 module _ (u v : ℕ → Verdict) where
@@ -95,12 +98,35 @@ module _ (words : List ℕ) (layout : Layout) (passed : imageRefusal (length wor
   unfolding imageReport
   report-as = lines-same (verdictAt image layout) (oldVerdict words layout) layout verdict-as
 
+-- with version 1 the rules are those of now
+module _ (bytes : List ℕ) (version : versionIn bytes ≡ 1) where
+  known : badVersion bytes .reason → ⊥
+  known r = r .0 version
+
+  none-now : NoneOf (oldRules bytes) → NoneOf (fileRules bytes)
+  none-now none = (none .0, (none .1 .0, (known, none .1 .1 .1)))
+
+  given-now : (number : ℕ) → FirstGiven number (oldRules bytes) → FirstGiven number (fileRules bytes)
+  given-now number =
+      ⊎-elim inl
+      (λ short. inr (
+        short .0,
+        ⊎-elim inl
+            (λ framed. inr (framed .0, ⊎-elim (λ no. absurd (no .0 version)) (λ rest. inr (known, rest .1)) (framed .1)))
+            (short .1),
+      ))
+
 pub old-printed : OldPrinted
-old-printed bytes out end left version none i =
-    let accepted = file-in-order bytes .accepted .1 none in
-    let fits : imageRefusal (length (wordsIn bytes)) (layoutIn bytes) ≡ 0 =
-    rw (length-words bytes) (words-layout bytes (layoutIn bytes) (sym (header-image bytes accepted))) in
-    let held : imageIn bytes ≡ complementedImage (layoutIn bytes) (wordsIn bytes) = rw version in
-    i .whole
-    ∙ ap endToEnd
-    (accepted-lines bytes accepted ∙ ap (λ (image : List ℕ). imageReport image (layoutIn bytes)) held ∙ report-as (wordsIn bytes) (layoutIn bytes) fits)
+old-printed bytes out end left version i =
+    let report = file-reported bytes out end left i in
+    record {
+      refused = λ number given. report .refused number (given-now bytes version number given);
+      accepted = λ none.
+          let accepted = file-in-order bytes .accepted .1 (none-now bytes version none) in
+          let fits : imageRefusal (length (wordsIn bytes)) (layoutIn bytes) ≡ 0 =
+          rw (length-words bytes) (words-layout bytes (layoutIn bytes) (sym (header-image bytes accepted))) in
+          let held : imageIn bytes ≡ complementedImage (layoutIn bytes) (wordsIn bytes) = rw version in
+          report .accepted (none-now bytes version none)
+          ∙ ap (λ (image : List ℕ). endToEnd (imageReport image (layoutIn bytes))) held
+          ∙ ap endToEnd (report-as (wordsIn bytes) (layoutIn bytes) fits);
+    }

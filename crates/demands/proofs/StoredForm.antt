@@ -63,10 +63,10 @@ use Rattle.demands.proofs.Demand2.{demand-2}
 -- ---- rows
 
 module _ (image : List ℕ) (layout : Layout) (block : ℕ) where
-  turned-word : (p : ℕ) → RowIn image layout block p → getD (complementedImage layout image) (index layout block p) 0
+  complemented-word : (p : ℕ) → RowIn image layout block p → getD (complementedImage layout image) (index layout block p) 0
       ≡ complementedIn p (getD image (index layout block p) 0)
-  turned-word zero r = absurd (omega (arith, r .first))
-  turned-word (suc k) r =
+  complemented-word zero r = absurd (omega (arith, r .first))
+  complemented-word (suc k) r =
       let first = geometry layout (image-layout layout (length image) (r .fits)) .s-first in
       let inside = in-range (rowsOf layout) (layout .s) first (layout .g) block (suc k) (r .there) (r .first) (r .last) in
       word-image layout image (index layout block (suc k)) (rw (image-exact layout (length image) (r .fits)) inside)
@@ -139,6 +139,29 @@ module _ (shape : Shape) (stored : List ℕ) (long : rows shape ≤ length store
       let all : lanesLost shape code ≡ 32 = omega (arith, many, none, kinds-lost shape code) in
       ap (λ (n : ℕ). verdict n (lanesLostAs shape code) (bitsChanged shape code (mendedBlock shape code))) all ∙ ap₂ Lost many none
 
+-- ---- a block of an image
+
+module _ (image : List ℕ) (layout : Layout) (block : ℕ) where
+  dead-found : Dead (rowsOf layout) (storedRows layout block image) → verdictOf (shapeOf layout) (gathered layout block image) ≡ Lost 32 0
+  unfolding gathered
+  dead-found =
+      dead-verdict (shapeOf layout) (storedRows layout block image) (rw (length-rows layout block image) (rows-fit (shapeOf layout)))
+
+  pub dead-block : (answer : Answer) (after : List ℕ) → Fitting image → Dead (rowsOf layout) (storedRows layout block image)
+      → Visits image layout block answer after
+      → answerNumber answer ≡ 0
+      → LostWhole (answerSaid answer) × (after ≡ image)
+  unfolding visitAnswer
+  dead-block answer after fits dead v z =
+      let e = visits-answer image layout block v in
+      let passed = sym (visit-number image layout block) ∙ sym (ap answerNumber e) ∙ z in
+      let found : answer ≡ Found (Lost 32 0) = e ∙ rw passed (ap Found (dead-found dead)) in
+      let said : answerSaid answer ≡ saidOf (Lost 32 0) = ap answerSaid found in
+      let says : answerSaid answer .verdict ≡ 3 = ap (λ (s : Said). s .verdict) said in (
+        record { verdict = says; even = ap (λ (s : Said). s .count) said; beyond = ap (λ (s : Said). s .beyond) said },
+        demand-2 .visit image layout block answer after fits v z .lost-unaltered says,
+      )
+
 -- ---- a dead image
 
 module _ (image : List ℕ) (layout : Layout) (dead : Dead (length image) image) where
@@ -162,25 +185,12 @@ module _ (image : List ℕ) (layout : Layout) (dead : Dead (length image) image)
     rows-dead : Dead (rowsOf layout) (storedRows layout block image)
     rows-dead = ⊎-elim (λ zeros. inl (row-dead 0 zeros)) (λ ones. inr (row-dead 0xFFFFFFFF ones)) dead
 
-    dead-found : verdictOf (shapeOf layout) (gathered layout block image) ≡ Lost 32 0
-    unfolding gathered
-    dead-found =
-        dead-verdict (shapeOf layout) (storedRows layout block image) (rw (length-rows layout block image) (rows-fit (shapeOf layout))) rows-dead
-
   dead-visit : (block : ℕ) (answer : Answer) (after : List ℕ) → Visits image layout block answer after → answerNumber answer ≡ 0
       → LostWhole (answerSaid answer) × (after ≡ image)
-  unfolding visitAnswer
   dead-visit block answer after v z =
-      let e = visits-answer image layout block v in
-      let passed = sym (visit-number image layout block) ∙ sym (ap answerNumber e) ∙ z in
+      let passed = sym (visit-number image layout block) ∙ sym (ap answerNumber (visits-answer image layout block v)) ∙ z in
       let ok = accepted layout (length image) block passed in
-      let fits = block-image layout (length image) block passed in
-      let found : answer ≡ Found (Lost 32 0) = e ∙ rw passed (ap Found (dead-found block fits (ok .inside))) in
-      let said : answerSaid answer ≡ saidOf (Lost 32 0) = ap answerSaid found in
-      let says : answerSaid answer .verdict ≡ 3 = ap (λ (s : Said). s .verdict) said in (
-        record { verdict = says; even = ap (λ (s : Said). s .count) said; beyond = ap (λ (s : Said). s .beyond) said },
-        demand-2 .visit image layout block answer after dead-fits v z .lost-unaltered says,
-      )
+      dead-block image layout block answer after dead-fits (rows-dead block (block-image layout (length image) block passed) (ok .inside)) v z
 
   dead-read : (block : ℕ) (buffer : List ℕ) (answer : Answer) (kept filled : List ℕ) → Reads image layout block buffer answer kept filled
       → answerNumber answer ≡ 0
@@ -226,17 +236,18 @@ stored-form =
     record {
       inverse = complemented-twice;
       image-inverse = image-twice;
-      rows-turned = λ block k h l. row-complemented block k l ∙ ap (bitXor (getD block k 0)) (low k h);
+      rows-complemented = λ block k h l. row-complemented block k l ∙ ap (bitXor (getD block k 0)) (low k h);
       rows-kept = rest-complemented;
-      image-turned = λ image layout block p r h. turned-word image layout block p r ∙ rw (le-leb p 2 h);
-      image-kept = λ image layout block p r h. turned-word image layout block p r ∙ word-past p _ h;
+      image-complemented = λ image layout block p r h. complemented-word image layout block p r ∙ rw (le-leb p 2 h);
+      image-kept = λ image layout block p r h. complemented-word image layout block p r ∙ word-past p _ h;
       fresh-ones = λ image layout answer after f block p r h. formatted-word image layout block f p r ∙ rw (le-leb p 2 h);
       fresh-zeros = λ image layout answer after f block p r h. formatted-word image layout block f p r ∙ rw (lt-leb p 2 h);
       dead-lanes = dead-lanes;
+      dead-block = dead-block;
       dead-visit = λ image layout block answer after dead. dead-visit image layout dead block answer after;
       dead-read = λ image layout block buffer answer kept filled dead. dead-read image layout dead block buffer answer kept filled;
       dead-turn = dead-turn;
-      dead-printed = λ image layout dead passed block there. verdict-read image layout block ∙ dead-found image layout dead block passed there;
+      dead-printed = λ image layout dead passed block there. verdict-read image layout block ∙ dead-found image layout block (rows-dead image layout dead block passed there);
     }
   where
     low : (k : ℕ) → k < 2 → mask (suc k) ≡ 0xFFFFFFFF

@@ -63,7 +63,7 @@ pub record Renewed (bytes buffer : List ℕ) (answer : Written) (after : List �
       → Inspects (renewed bytes) out end' left'
       → (end ≡ end') × (left ≡ left')
 
--- the inspecting program prints of the file that was written the report of the image, and so what it prints of any file with that layout and those words
+-- the inspecting program prints of the file that was written the report of the image, and so what it prints of any file with that layout and that image
 pub record Printed (image : List ℕ) (layout : Layout) (file : List ℕ) : Type 0 where
   pub report : (out : List ℕ) (end : ℕ) (left : List ℕ) → Inspects file out end left → take end left ≡ endToEnd (imageReport image layout)
   pub same : (bytes out : List ℕ) (end : ℕ) (left : List ℕ) (end' : ℕ) (left' : List ℕ) → Read bytes layout image

@@ -15,8 +15,10 @@ use Rattle.layout.specs.Refusal.{imageRefusal}
 use Rattle.stored.specs.Stored.{complemented, complementedImage}
 use Rattle.block.specs.Verdict.{Said}
 use Rattle.block.specs.declared.Verdict.the-variants.{Lost}
+use Rattle.block.specs.Block.{Fitting}
 use Rattle.store.specs.declared.Answer.{Answer}
 use Rattle.store.specs.Answer.{answerNumber, answerSaid}
+use Rattle.store.specs.Image.{storedRows}
 use Rattle.store.specs.Read.{Reads}
 use Rattle.store.specs.Visit.{Visits}
 use Rattle.rota.specs.Line.{asksOf}
@@ -55,9 +57,9 @@ pub record StoredForm : Type 0 where
   pub inverse : (block : List ℕ) → complemented (complemented block) ≡ block
   pub image-inverse : (layout : Layout) (image : List ℕ) → complementedImage layout (complementedImage layout image) ≡ image
   -- of a block it complements rows 1 and 2 and no other word, and so it does of each block of an image
-  pub rows-turned : (block : List ℕ) (k : ℕ) → k < 2 → k < length block → getD (complemented block) k 0 ≡ bitXor (getD block k 0) 0xFFFFFFFF
+  pub rows-complemented : (block : List ℕ) (k : ℕ) → k < 2 → k < length block → getD (complemented block) k 0 ≡ bitXor (getD block k 0) 0xFFFFFFFF
   pub rows-kept : (block : List ℕ) (k : ℕ) → 2 ≤ k → getD (complemented block) k 0 ≡ getD block k 0
-  pub image-turned : (image : List ℕ) (layout : Layout) (block p : ℕ) → RowIn image layout block p → p ≤ 2
+  pub image-complemented : (image : List ℕ) (layout : Layout) (block p : ℕ) → RowIn image layout block p → p ≤ 2
       → getD (complementedImage layout image) (index layout block p) 0 ≡ bitXor (getD image (index layout block p) 0) 0xFFFFFFFF
   pub image-kept : (image : List ℕ) (layout : Layout) (block p : ℕ) → RowIn image layout block p → 2 < p
       → getD (complementedImage layout image) (index layout block p) 0 ≡ getD image (index layout block p) 0
@@ -69,7 +71,13 @@ pub record StoredForm : Type 0 where
   -- a block stored as all zeros or all ones: every lane is lost, and even
   pub dead-lanes : (shape : Shape) (stored : List ℕ) → rows shape ≤ length stored → Dead (rows shape) stored
       → (i : ℕ) → i < 32 → LaneLostAs even shape stored i
-  -- so every block of an image of all zeros or all ones is lost 32 0, whatever s, and nothing is touched
+  -- so such a block is lost 32 0, whatever lies beside it, and nothing is touched
+  pub dead-block : (image : List ℕ) (layout : Layout) (block : ℕ) (answer : Answer) (after : List ℕ) → Fitting image
+      → Dead (rowsOf layout) (storedRows layout block image)
+      → Visits image layout block answer after
+      → answerNumber answer ≡ 0
+      → LostWhole (answerSaid answer) × (after ≡ image)
+  -- and so is every block of an image of all zeros or all ones, whatever s
   pub dead-visit : (image : List ℕ) (layout : Layout) (block : ℕ) (answer : Answer) (after : List ℕ) → Dead (length image) image
       → Visits image layout block answer after
       → answerNumber answer ≡ 0

@@ -4,6 +4,7 @@ ghost use Rattle.file.specs.Bytes.{CountsFileWords};
 ghost use Rattle.file.specs.Inner.{wordsInto};
 ghost use Rattle.file.specs.Header.{HeaderRead, ReadsFile};
 use super::Header;
+use super::refusals::OLD_VERSION;
 use super::refusals::check_body;
 use super::refusals::check_frame;
 use super::refusals::pair_of;
@@ -59,8 +60,8 @@ pub fn read_file(bytes: &[u8], image: &mut [u32]) -> Header
                 return Header::Refused(4);
             }
             read_words(bytes, image);
-            // Version 1 has rows 1 and 2 as the code has them.
-            if bytes[0] == 1 {
+            // The old version has rows 1 and 2 as the code has them.
+            if bytes[0] == OLD_VERSION {
                 stored::complement_image(image, layout);
             }
             Header::Image(layout)

@@ -6,8 +6,10 @@ ghost use Rattle.file.specs.BigEndian.{pairOf, wordAt};
 ghost use Rattle.file.specs.Refusal.{frameRefusal, bodyRefusal, writeRefusal};
 use layout::Layout;
 
-// What is written; of older versions there is 1.
+// The version that is written, and the one before it, which is read too.
 pub(crate) const VERSION: u8 = 2;
+
+pub(crate) const OLD_VERSION: u8 = 1;
 
 // No file is longer.
 const LONGEST: usize = 32768;

@@ -64,6 +64,8 @@ fn accepted_files() {
     show(b"most-blocks");
     show(b"dead.img");
     show(b"version-1.img");
+    show(b"version-1-interleaved");
+    show(b"version-1-kinds");
 }
 
 fn main() {

@@ -1,6 +1,7 @@
 // How an image is laid out: its shape, interleave and groups; what is refused of it; where a block lies.
 mod locating;
 mod refusals;
+mod sizes;
 
 use shape::Shape;
 

@@ -30,8 +30,8 @@ Kept sums found lent after = (found ≡ anyOf 8 sums) × (after ≡ ifZero found
 
 -- ---- the rows in groups of four
 
--- the eight words of the code's block, from stored rows by how they end, digit 2, and digits 3 to 6: rows 1 and 2, which are stored complemented,
--- have in every lane the sum 3 and no parity
+-- the eight words of the code's block, from stored rows by how they end, digit 2, and digits 3 to 6: complementing rows 1 and 2 changes every lane's
+-- sum by 3 and no parity
 abbrev pub eightOf : Endings → ℕ → List ℕ → List ℕ
 eightOf ends d2 high =
     let d0 : ℕ = bitXor (ends .e01) (ends .e11) in
