@@ -247,7 +247,8 @@ stored-form =
       dead-visit = λ image layout block answer after dead. dead-visit image layout dead block answer after;
       dead-read = λ image layout block buffer answer kept filled dead. dead-read image layout dead block buffer answer kept filled;
       dead-turn = dead-turn;
-      dead-printed = λ image layout dead passed block there. verdict-read image layout block ∙ dead-found image layout block (rows-dead image layout dead block passed there);
+      dead-printed = λ image layout dead passed block there.
+          verdict-read image layout block ∙ dead-found image layout block (rows-dead image layout dead block passed there);
     }
   where
     low : (k : ℕ) → k < 2 → mask (suc k) ≡ 0xFFFFFFFF
