@@ -18,7 +18,7 @@ use Rattle.file.proofs.Headers.{tells-if, header-read}
 use Rattle.file.proofs.FileWrites.{file-written}
 use Rattle.words.specs.Layouts.{layoutHeld, layoutWords}
 use Rattle.foldgrebe.specs.FileCalls.{FileWriteCall, FileLayoutCall, FileReadCall}
-use Rattle.demands.specs.RoundTrip.{Read, whole, renewed}
+use Rattle.demands.specs.RoundTrip.{Read, whole, Rewritten, renewed}
 use Rattle.demands.proofs.Files.{file-demand}
 use Rattle.demands.proofs.RoundTrip.{file-round-trip}
 use Rattle.callers.specs.Demands.{CallerRefusing}
@@ -133,6 +133,19 @@ module _ {image buffer kept after written : List ℕ} {layout : Layout} {number 
             (read-so r .0 ∙ passed, read-so r .1 ∙ ap layoutWords (same .0), same .1);
       }
 
+-- what was read from a file, and a call that writes it
+caller-written : {bytes image buffer kept after written file : List ℕ} {layout : Layout} {number : ℕ}
+    (w : FileWriteCall image layout buffer number kept after written)
+    → Rewritten bytes buffer file (writeAnswer image layout buffer) after
+    → CallerWritten bytes buffer file number after written
+caller-written w a =
+    record {
+      accepted = wrote-number w ∙ a .accepted;
+      count = wrote-bytes w ∙ ap (λ (count : ℕ). count ∷ []) (a .count);
+      is = a .is;
+      past = a .past;
+    }
+
 module _ {bytes lent kept image words : List ℕ} {number : ℕ} (fits : FittingBytes bytes) where
   -- what was read is what a demand on reading speaks of
   was-read : FileReadCall bytes lent number kept image words → number ≡ 0 → Read bytes (layoutHeld words) image
@@ -145,26 +158,16 @@ module _ {bytes lent kept image words : List ℕ} {number : ℕ} (fits : Fitting
       → FileWriteCall image (layoutHeld words) buffer number' kept' after written
       → CallerWritten bytes buffer bytes number' after written
   file-again version c z {buffer} l w =
-      let a = file-round-trip .again bytes (layoutHeld words) image fits version (was-read c z) buffer _ _ _ l (wrote w) in
-      record {
-        accepted = wrote-number w ∙ a .accepted;
-        count = wrote-bytes w ∙ ap (λ (count : ℕ). count ∷ []) (a .count);
-        is = a .same;
-        past = a .past;
-      }
+      caller-written w
+      (file-round-trip .again bytes (layoutHeld words) image fits version (was-read c z) buffer _ _ _ l (wrote w))
 
   file-new : versionIn bytes ≡ 1 → FileReadCall bytes lent number kept image words → number ≡ 0
       → {buffer kept' after written : List ℕ} {number' : ℕ} → length bytes ≤ length buffer
       → FileWriteCall image (layoutHeld words) buffer number' kept' after written
       → CallerWritten bytes buffer (renewed bytes) number' after written
   file-new version c z {buffer} l w =
-      let a = file-round-trip .new bytes (layoutHeld words) image fits version (was-read c z) buffer _ _ _ l (wrote w) in
-      record {
-        accepted = wrote-number w ∙ a .accepted;
-        count = wrote-bytes w ∙ ap (λ (count : ℕ). count ∷ []) (a .count);
-        is = a .file;
-        past = a .past;
-      }
+      caller-written w
+      (file-round-trip .new bytes (layoutHeld words) image fits version (was-read c z) buffer _ _ _ l (wrote w) .written)
 
 pub caller-files : CallerFiles
 caller-files =

@@ -29,7 +29,7 @@ use Rattle.text.specs.Page.{endToEnd}
 use Rattle.report.specs.Report.{imageReport, reportOf}
 use Rattle.report.proofs.OneResult.{one-report}
 use Rattle.demands.specs.RoundTrip.{Read, whole, Wrote, Edge, Most, sampleImage, wordedImage, Headed, renewed}
-use Rattle.demands.specs.RoundTrip.{Again, Renewed, ReadsBack, WritesRead, PrintsSame, FileRoundTrip}
+use Rattle.demands.specs.RoundTrip.{Rewritten, Again, Renewed, ReadsBack, WritesRead, PrintsSame, FileRoundTrip}
 use Rattle.demands.specs.Examples.{oldSample, newSample}
 use Rattle.demands.proofs.Files.{accepted-lines, written-file, file-writes}
 
@@ -92,35 +92,26 @@ write-passed bytes image room e many l =
     rw (fits, size, le-ltb 32768 (length bytes) (ok .frame .most), le-ltb room (length bytes) l)
 
 -- what is written of what was read: the file of that image, and as long as the file that was read
-module _ (bytes : List ℕ) (image buffer : List ℕ) (e : fileRefusal bytes ≡ 0) (many : length image ≡ wordCount (length bytes))
-    (l : length bytes ≤ length buffer)
-    {answer : Written} {kept after : List ℕ} (w : WritesFile image (layoutIn bytes) buffer answer kept after) where
-  none : writeRefusal (length image) (layoutIn bytes) (length buffer) ≡ 0
-  none = write-passed bytes image (length buffer) e many l
-
-  count-again : writtenBytes answer ≡ length bytes
-  count-again =
-      written-file image (layoutIn bytes) buffer w none .0 ∙ length-file (layoutIn bytes) image
-      ∙ omega (arith, many, accepted bytes e .body, accepted bytes e .frame .least)
-
-  file-again : take (length bytes) after ≡ fileOf (layoutIn bytes) image
-  file-again = rw (← count-again) (written-file image (layoutIn bytes) buffer w none .1)
-
-  past-again : drop (length bytes) after ≡ drop (length bytes) buffer
-  past-again = rw (← count-again) (written-file image (layoutIn bytes) buffer w none .2)
+rewritten : (bytes image buffer file : List ℕ) → fileRefusal bytes ≡ 0 → length image ≡ wordCount (length bytes) → fileOf (layoutIn bytes) image ≡ file
+    → length bytes ≤ length buffer
+    → {answer : Written} {kept after : List ℕ} → WritesFile image (layoutIn bytes) buffer answer kept after
+    → Rewritten bytes buffer file answer after
+rewritten bytes image buffer file e many is l {answer} {kept} {after} w =
+    let none = write-passed bytes image (length buffer) e many l in
+    let wrote = written-file image (layoutIn bytes) buffer w none in
+    let count : writtenBytes answer ≡ length bytes =
+    wrote .0 ∙ length-file (layoutIn bytes) image ∙ omega (arith, many, accepted bytes e .body, accepted bytes e .frame .least) in
+    let all : take (length bytes) after ≡ fileOf (layoutIn bytes) image = rw (← count) (wrote .1) in
+    record { accepted = w .number ∙ none; count = count; is = all ∙ is; past = rw (← count) (wrote .2) }
 
 again : WritesRead 2 Again
 again bytes layout image fits version r buffer answer kept after l w =
     let s = stands bytes layout image r in
     let is : image ≡ wordsIn bytes = s .words ∙ rw version in
-    let many = ap length is ∙ length-words bytes in
-    let wrote = rw (s .named) at w in
-    record {
-      accepted = wrote .number ∙ none bytes image buffer (s .passed) many l wrote;
-      count = count-again bytes image buffer (s .passed) many l wrote;
-      same = file-again bytes image buffer (s .passed) many l wrote ∙ ap (fileOf (layoutIn bytes)) is ∙ file-back bytes fits (s .passed) version;
-      past = past-again bytes image buffer (s .passed) many l wrote;
-    }
+    rewritten bytes image buffer bytes (s .passed) (ap length is ∙ length-words bytes)
+    (ap (fileOf (layoutIn bytes)) is ∙ file-back bytes fits (s .passed) version)
+    l
+    (rw (s .named) at w)
 
 -- ---- what is printed
 
@@ -149,12 +140,9 @@ new bytes layout image fits version r buffer answer kept after l w =
     let code = complementedImage (layoutIn bytes) (wordsIn bytes) in
     let is : image ≡ code = s .words ∙ rw version in
     let many : length image ≡ wordCount (length bytes) = ap length is ∙ length-image (layoutIn bytes) (wordsIn bytes) ∙ length-words bytes in
-    let wrote = rw (s .named) at w in
-    let count = count-again bytes image buffer (s .passed) many l wrote in
-    let passed = wrote .number ∙ none bytes image buffer (s .passed) many l wrote in
-    let file : take (length bytes) after ≡ renewed bytes =
-    file-again bytes image buffer (s .passed) many l wrote ∙ file-renewed bytes fits (s .passed) image many
-    ∙ ap (λ (words : List ℕ). 2 ∷ take 8 (drop 1 bytes) ++ bytesOf words) is in
+    let renews : fileOf (layoutIn bytes) image ≡ renewed bytes =
+    file-renewed bytes fits (s .passed) image many ∙ ap (λ (words : List ℕ). 2 ∷ take 8 (drop 1 bytes) ++ bytesOf words) is in
+    let written = rewritten bytes image buffer (renewed bytes) (s .passed) many renews l (rw (s .named) at w) in
     let filed : Wrote image layout (renewed bytes) =
     record {
       buffer = buffer;
@@ -162,14 +150,11 @@ new bytes layout image fits version r buffer answer kept after l w =
       kept = kept;
       after = after;
       promised = w;
-      accepted = passed;
-      file-is = sym file ∙ ap (λ (n : ℕ). take n after) (sym count);
+      accepted = written .accepted;
+      file-is = sym (written .is) ∙ ap (λ (n : ℕ). take n after) (sym (written .count));
     } in
     record {
-      accepted = passed;
-      count = count;
-      file = file;
-      past = past-again bytes image buffer (s .passed) many l wrote;
+      written = written;
       printed = λ out end left end' left' i j. printed image layout (renewed bytes) filed .same bytes out end left end' left' r i j;
     }
 

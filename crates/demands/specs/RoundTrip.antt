@@ -41,12 +41,16 @@ pub record Back (image : List ℕ) (layout : Layout) (file : List ℕ) : Type 0 
   pub whole : (header : Header) (lent kept after : List ℕ) → length lent ≡ length image → ReadsFile file lent header kept after → headerNumber header ≡ 0
   pub same : (named : Layout) (words : List ℕ) → Read file named words → (named ≡ layout) × (words ≡ image)
 
--- from a file of version 2 to its image and back: writing is accepted where there is room, and gives the same bytes, all of them
-pub record Again (bytes buffer : List ℕ) (answer : Written) (after : List ℕ) : Type 0 where
+-- what was read from a file is written, where there is room: accepted, a file of as many bytes, and the bytes past it stay
+pub record Rewritten (bytes buffer file : List ℕ) (answer : Written) (after : List ℕ) : Type 0 where
   pub accepted : writtenNumber answer ≡ 0
   pub count : writtenBytes answer ≡ length bytes
-  pub same : take (length bytes) after ≡ bytes
+  pub is : take (length bytes) after ≡ file
   pub past : drop (length bytes) after ≡ drop (length bytes) buffer
+
+-- from a file of version 2 to its image and back: the same bytes, all of them
+abbrev pub Again : List ℕ → List ℕ → Written → List ℕ → Type 0
+Again bytes buffer answer after = Rewritten bytes buffer bytes answer after
 
 -- the file of version 2 that a file of version 1 becomes: the header is the same but for the version, and in the words rows 1 and 2 of each block are
 -- complemented
@@ -55,10 +59,7 @@ renewed bytes = 2 ∷ take 8 (drop 1 bytes) ++ bytesOf (complementedImage (layou
 
 -- from a file of version 1 to its image and to that file, of which the same is printed
 pub record Renewed (bytes buffer : List ℕ) (answer : Written) (after : List ℕ) : Type 0 where
-  pub accepted : writtenNumber answer ≡ 0
-  pub count : writtenBytes answer ≡ length bytes
-  pub file : take (length bytes) after ≡ renewed bytes
-  pub past : drop (length bytes) after ≡ drop (length bytes) buffer
+  pub written : Rewritten bytes buffer (renewed bytes) answer after
   pub printed : (out : List ℕ) (end : ℕ) (left : List ℕ) (end' : ℕ) (left' : List ℕ) → Inspects bytes out end left
       → Inspects (renewed bytes) out end' left'
       → (end ≡ end') × (left ≡ left')
