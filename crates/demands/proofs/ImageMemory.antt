@@ -21,10 +21,10 @@ use Rattle.block.proofs.Blocks.{near-none, near-rows, mended-fits}
 use Rattle.shape.proofs.Sizes.{rows-fit}
 use Rattle.block.proofs.ValidBlocks.{length-valid, valid-out, valid-fits, valid-is}
 use Rattle.layout.specs.declared.Layout.{Layout}
-use Rattle.layout.specs.Layout.{shapeOf, rowsOf, blocks, index}
+use Rattle.layout.specs.Layout.{shapeOf, blocks, index}
 use Rattle.layout.specs.Refusal.{imageRefusal}
-use Rattle.layout.proofs.Index.{in-range}
-use Rattle.layout.proofs.Ladder.{geometry, image-layout, image-exact, block-accepted}
+use Rattle.layout.proofs.RowsInside.{interleaved, row-inside}
+use Rattle.layout.proofs.Ladder.{image-layout, image-exact, block-accepted}
 use Rattle.store.specs.Image.{gathered, placed}
 use Rattle.store.specs.Fresh.{freshImage}
 use Rattle.store.specs.Visit.{visitAfter}
@@ -52,7 +52,7 @@ module _ (len : ℕ) (layout : Layout) (fits : imageRefusal len layout ≡ 0) wh
   shape = shapeOf layout
 
   pub first : 1 ≤ layout .s
-  first = geometry layout (image-layout layout len fits) .s-first
+  first = interleaved layout len fits
 
   -- the image keeps its length, and its words are words
   pub record Sound (image : List ℕ) : Type 0 where
@@ -185,7 +185,7 @@ module _ (len : ℕ) (layout : Layout) (fits : imageRefusal len layout ≡ 0) wh
             (rw (
               e,
               gathered-placed layout block (first) (validBlock shape list) image
-                  (λ p a b. rw (ok .size, image-exact layout len fits) (in-range (rowsOf layout) (layout .s) first (layout .g) block p l a b))
+                  (λ p a b. rw (ok .size) (row-inside layout len fits block p l a b))
                   (length-valid shape list)
                   (valid-out shape list),
             )

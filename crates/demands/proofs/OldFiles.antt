@@ -7,10 +7,10 @@ use native.Mathlib.Omega.{arith}
 use lib.ListN.{length}
 use Rattle.shape.proofs.Sizes.{rows-fit}
 use Rattle.layout.specs.declared.Layout.{Layout}
-use Rattle.layout.specs.Layout.{shapeOf, rowsOf, blocks, index}
+use Rattle.layout.specs.Layout.{shapeOf, blocks}
 use Rattle.layout.specs.Refusal.{imageRefusal}
-use Rattle.layout.proofs.Index.{in-range}
-use Rattle.layout.proofs.Ladder.{geometry, image-layout, image-exact, block-accepted}
+use Rattle.layout.proofs.RowsInside.{interleaved, row-inside}
+use Rattle.layout.proofs.Ladder.{block-accepted}
 use Rattle.stored.specs.Stored.{complementedImage}
 use Rattle.stored.proofs.Forms.{length-image}
 use Rattle.block.specs.Block.{mendedBlock}
@@ -47,9 +47,6 @@ module _ (u v : ℕ → Verdict) where
   lines-same layout same = let both = blocks-same (blocks layout) same in rw (both .0, both .1)
 
 module _ (words : List ℕ) (layout : Layout) (passed : imageRefusal (length words) layout ≡ 0) where
-  first : 1 ≤ layout .s
-  first = geometry layout (image-layout layout (length words) passed) .s-first
-
   abbrev image : List ℕ
   image = complementedImage layout words
 
@@ -59,10 +56,26 @@ module _ (words : List ℕ) (layout : Layout) (passed : imageRefusal (length wor
   abbrev old : ℕ → List ℕ
   old = oldVisited words layout
 
-  inside : (n : ℕ) → n < blocks layout → length (old n) ≡ length words → (k : ℕ) → k < rowsOf layout → index layout n (suc k) < length (old n)
-  inside n h size k l =
-      rw (size, image-exact layout (length words) passed)
-      (in-range (rowsOf layout) (layout .s) first (layout .g) n (suc k) h (omega arith) l)
+  -- its length, where what is visited is these words as they are stored now
+  length-old : (n : ℕ) → visitedBelow image layout n ≡ complementedImage layout (old n) → length (old n) ≡ length words
+  length-old n same = sym (length-image layout (old n)) ∙ sym (ap length same) ∙ length-visited image layout n ∙ length-image layout words
+
+  -- the rows that the code finds are those of the old words
+  found : (n : ℕ) → n < blocks layout → length (old n) ≡ length words
+      → gathered layout n (complementedImage layout (old n)) ≡ storedRows layout n (old n)
+  found n h size =
+      gathered-complemented layout (interleaved layout (length words) passed) n (old n)
+      (λ k l. rw size (row-inside layout (length words) passed n (suc k) h (omega arith) l))
+
+  -- one visit more
+  visit-as : (n : ℕ) → n < blocks layout → length (old n) ≡ length words
+      → visitAfter (complementedImage layout (old n)) layout n ≡ complementedImage layout (oldVisit (old n) layout n)
+  unfolding visitAfter oldVisit
+  visit-as n h size =
+      let long : length (mendedBlock (shapeOf layout) (storedRows layout n (old n))) ≡ 72 =
+      length-mended (shapeOf layout) (storedRows layout n (old n)) ∙ length-rows layout n (old n) in
+      rw (length-image layout (old n), size, block-accepted layout (length words) n passed h, found n h size)
+      (placed-complemented layout (interleaved layout (length words) passed) n _ (old n) (omega (arith, long, rows-fit (shapeOf layout))))
 
   -- what is visited is the old words, as they are stored now
   visited-as : (n : ℕ) → n ≤ blocks layout → visitedBelow image layout n ≡ complementedImage layout (old n)
@@ -70,29 +83,13 @@ module _ (words : List ℕ) (layout : Layout) (passed : imageRefusal (length wor
   visited-as zero h = refl
   visited-as (suc n) h =
       let same = visited-as n (omega arith) in
-      let size : length (old n) ≡ length words =
-      sym (length-image layout (old n)) ∙ sym (ap length same) ∙ length-visited image layout n ∙ length-image layout words in
-      let there = stays n (omega arith) size in
-      ap (λ (l : List ℕ). visitAfter l layout n) same ∙ there
-    where
-      -- one visit more
-      stays : (n : ℕ) → n < blocks layout → length (old n) ≡ length words
-          → visitAfter (complementedImage layout (old n)) layout n ≡ complementedImage layout (oldVisit (old n) layout n)
-      stays n h size =
-          unfold visitAfter oldVisit in
-          (let long : length (mendedBlock (shapeOf layout) (storedRows layout n (old n))) ≡ 72 =
-          length-mended (shapeOf layout) (storedRows layout n (old n)) ∙ length-rows layout n (old n) in
-          let found = gathered-complemented layout first n (old n) (inside n h size) in
-          rw (length-image layout (old n), size, block-accepted layout (length words) n passed h, found)
-          (placed-complemented layout first n _ (old n) (omega (arith, long, rows-fit (shapeOf layout)))))
+      ap (λ (l : List ℕ). visitAfter l layout n) same ∙ visit-as n (omega arith) (length-old n same)
 
   verdict-as : (n : ℕ) → n < blocks layout → verdictAt image layout n ≡ oldVerdict words layout n
   unfolding verdictAt
   verdict-as n h =
       let same = visited-as n (omega arith) in
-      let size : length (old n) ≡ length words =
-      sym (length-image layout (old n)) ∙ sym (ap length same) ∙ length-visited image layout n ∙ length-image layout words in
-      ap (verdictOf (shapeOf layout)) (ap (gathered layout n) same ∙ gathered-complemented layout first n (old n) (inside n h size))
+      ap (verdictOf (shapeOf layout)) (ap (gathered layout n) same ∙ found n h (length-old n same))
 
   report-as : imageReport image layout ≡ oldReport words layout
   unfolding imageReport

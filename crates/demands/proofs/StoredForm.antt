@@ -28,8 +28,8 @@ use Rattle.sums.proofs.StoredSums.{bit-ones, sum-complemented, odd-complemented
 use Rattle.layout.specs.declared.Layout.{Layout}
 use Rattle.layout.specs.Layout.{shapeOf, rowsOf, blocks, index}
 use Rattle.layout.specs.Refusal.{imageRefusal}
-use Rattle.layout.proofs.Index.{in-range}
-use Rattle.layout.proofs.Ladder.{geometry, image-layout, image-exact, block-image, accepted}
+use Rattle.layout.proofs.RowsInside.{row-at-index, interleaved, row-inside}
+use Rattle.layout.proofs.Ladder.{image-layout, block-image, accepted}
 use Rattle.stored.specs.Stored.{mask, complementedIn, complemented, complementedImage}
 use Rattle.stored.proofs.Forms.{word-past, row-complemented, rest-complemented, complemented-twice, word-image, image-twice}
 use Rattle.block.specs.Block.{lanesLost, lanesLostAs, bitsChanged, mendedBlock, Fitting}
@@ -39,13 +39,13 @@ use Rattle.block.proofs.Told.{few-lost, kinds-lost}
 use Rattle.store.specs.declared.Answer.{Answer}
 use Rattle.store.specs.declared.Answer.the-variants.{Found}
 use Rattle.store.specs.Answer.{answerNumber, answerSaid}
-use Rattle.store.specs.Fresh.{freshWord, freshImage, freshAfter}
+use Rattle.store.specs.Fresh.{freshImage, freshAfter}
 use Rattle.store.specs.Image.{storedRows, gathered}
 use Rattle.store.specs.Read.{Reads}
 use Rattle.store.specs.Visit.{Visits, visitAnswer, visitAfter}
 use Rattle.store.proofs.Image.{length-rows, rows-row}
 use Rattle.store.proofs.Promises.{visits, visits-answer}
-use Rattle.store.proofs.StoredImages.{row-at-index}
+use Rattle.store.proofs.FreshBlocks.{fresh-word}
 use Rattle.rota.specs.Line.{asksOf}
 use Rattle.patrol.specs.declared.Record.{Record}
 use Rattle.patrol.specs.declared.Formatted.{Formatted}
@@ -54,7 +54,6 @@ use Rattle.patrol.specs.Format.{Formats}
 use Rattle.patrol.specs.Numbers.{reportNumber, reportFirst, reportSecond}
 use Rattle.patrol.specs.Turn.{Turns}
 use Rattle.report.proofs.Visited.{verdict-read}
-use Rattle.ground.proofs.Lists.{getD-listOf}
 use Rattle.demands.specs.Demand2.{LaneLostAs, Turning}
 use Rattle.demands.specs.StoredForm.{RowIn, Dead, LostWhole, StoredForm}
 use Rattle.demands.proofs.Numbers.{visit-number}
@@ -67,26 +66,18 @@ module _ (image : List ℕ) (layout : Layout) (block : ℕ) where
       ≡ complementedIn p (getD image (index layout block p) 0)
   complemented-word zero r = absurd (omega (arith, r .first))
   complemented-word (suc k) r =
-      let first = geometry layout (image-layout layout (length image) (r .fits)) .s-first in
-      let inside = in-range (rowsOf layout) (layout .s) first (layout .g) block (suc k) (r .there) (r .first) (r .last) in
-      word-image layout image (index layout block (suc k)) (rw (image-exact layout (length image) (r .fits)) inside)
-      ∙ ap (λ (p : ℕ). complementedIn p (getD image (index layout block (suc k)) 0)) (row-at-index layout first block k (r .last))
-
-  fresh-word : (p : ℕ) → RowIn image layout block p → getD (freshImage layout) (index layout block p) 0 ≡ mask p
-  unfolding freshImage
-  fresh-word zero r = absurd (omega (arith, r .first))
-  fresh-word (suc k) r =
-      let first = geometry layout (image-layout layout (length image) (r .fits)) .s-first in
-      getD-listOf _ (freshWord layout) (index layout block (suc k))
-      (in-range (rowsOf layout) (layout .s) first (layout .g) block (suc k) (r .there) (r .first) (r .last))
-      ∙ ap mask (row-at-index layout first block k (r .last))
+      let at = index layout block (suc k) in
+      word-image layout image at (row-inside layout (length image) (r .fits) block (suc k) (r .there) (r .first) (r .last))
+      ∙ ap (λ (p : ℕ). complementedIn p (getD image at 0)) (row-at-index layout (interleaved layout (length image) (r .fits)) block k (r .last))
 
   formatted-word : {answer : Formatted} {after : List ℕ} → Formats image layout answer after → (p : ℕ) → RowIn image layout block p
       → getD after (index layout block p) 0 ≡ mask p
   unfolding freshAfter
-  formatted-word {after = after} f p r =
+  formatted-word f zero r = absurd (omega (arith, r .first))
+  formatted-word {after = after} f (suc k) r =
       let left : after ≡ freshImage layout = f .leaves ∙ rw (r .fits) in
-      ap (λ (l : List ℕ). getD l (index layout block p) 0) left ∙ fresh-word p r
+      ap (λ (l : List ℕ). getD l (index layout block (suc k)) 0) left
+      ∙ fresh-word layout (image-layout layout (length image) (r .fits)) block (r .there) k (r .last)
 
 -- ---- a dead block
 
@@ -173,14 +164,8 @@ module _ (image : List ℕ) (layout : Layout) (dead : Dead (length image) image)
       (split-below k (length image))
 
   module _ (block : ℕ) (passed : imageRefusal (length image) layout ≡ 0) (there : block < blocks layout) where
-    inside : (k : ℕ) → k < rowsOf layout → index layout block (suc k) < length image
-    inside k h =
-        rw (image-exact layout (length image) passed)
-        (in-range (rowsOf layout) (layout .s) (geometry layout (image-layout layout (length image) passed) .s-first) (layout .g) block (suc k) there
-        (omega arith) h)
-
     row-dead : (w : ℕ) → ((k : ℕ) → k < length image → getD image k 0 ≡ w) → (k : ℕ) → k < rowsOf layout → getD (storedRows layout block image) k 0 ≡ w
-    row-dead w all k h = rows-row layout block image k h ∙ all (index layout block (suc k)) (inside k h)
+    row-dead w all k h = rows-row layout block image k h ∙ all (index layout block (suc k)) (row-inside layout (length image) passed block (suc k) there (omega arith) h)
 
     rows-dead : Dead (rowsOf layout) (storedRows layout block image)
     rows-dead = ⊎-elim (λ zeros. inl (row-dead 0 zeros)) (λ ones. inr (row-dead 0xFFFFFFFF ones)) dead

@@ -39,11 +39,11 @@ abbrev pub oldReport : List ℕ → Layout → List (List ℕ)
 oldReport words layout = linesBy layout (oldVerdict words layout)
 
 -- the old rules of a file: the version is not 1
-abbrev pub notOne : List ℕ → Rule
-notOne bytes = record { number = 9; reason = versionIn bytes ≡ 1 → ⊥ }
+abbrev pub notVersionOne : List ℕ → Rule
+notVersionOne bytes = record { number = 9; reason = versionIn bytes ≡ 1 → ⊥ }
 
 abbrev pub oldRules : List ℕ → List Rule
-oldRules bytes = tooLong bytes ∷ tooShort bytes ∷ notOne bytes ∷ badField bytes ∷ layoutRules (layoutIn bytes) ++ badBody bytes ∷ []
+oldRules bytes = tooLong bytes ∷ tooShort bytes ∷ notVersionOne bytes ∷ badField bytes ∷ layoutRules (layoutIn bytes) ++ badBody bytes ∷ []
 
 -- what was printed of a file
 pub record PrintedBefore (bytes answered : List ℕ) : Type 1 where

@@ -1,4 +1,5 @@
 pub mod Shapes
 pub mod Index
 pub mod Ladder
+pub mod RowsInside
 pub mod Sites

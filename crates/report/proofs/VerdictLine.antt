@@ -12,7 +12,7 @@ use Rattle.block.specs.Verdict.{verdictCount, verdictBeyond}
 use Rattle.text.specs.Page.{page, writtenAll, endToEnd}
 use Rattle.text.proofs.Lines.{Line, with-all, at-most}
 use Rattle.report.specs.Lines.{verdictParts}
-use Rattle.report.proofs.Short.{Short, one-text, one-number, and-then, nothing}
+use Rattle.report.proofs.Short.{one-text, one-number, and-then, nothing}
 
 -- both numbers have at most ten digits
 parts-few : (v : Verdict) → Fits w32 (verdictCount v) × Fits w32 (verdictBeyond v) → length (endToEnd (verdictParts v)) ≤ 27

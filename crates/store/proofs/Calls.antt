@@ -8,7 +8,7 @@ use types.Run.{hit}
 use Rattle.shape.specs.declared.Shape.{Shape}
 use Rattle.block.specs.declared.Verdict.{Verdict}
 use Rattle.block.specs.declared.Verdict.the-variants.{Clean, Lost}
-use Rattle.shape.specs.Shape.{rows, words, dataRowsOf}
+use Rattle.shape.specs.Shape.{words, dataRowsOf}
 use Rattle.sums.specs.Words.{row}
 use Rattle.ground.proofs.Stores.{length-stores, stores-hit}
 use Rattle.block.specs.Block.{validBlock, mendedBlock, dataInto, dataOf}

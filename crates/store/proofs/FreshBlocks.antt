@@ -19,7 +19,7 @@ use Rattle.block.proofs.ValidBlocks.{valid-only, zero-valid}
 use Rattle.layout.specs.declared.Layout.{Layout}
 use Rattle.layout.specs.Layout.{shapeOf, rowsOf, wordsOf, blocks, index, rowAt}
 use Rattle.layout.specs.Refusal.{layoutRefusal}
-use Rattle.layout.proofs.Index.{in-range, row-of}
+use Rattle.layout.proofs.RowsInside.{row-below, row-at-index}
 use Rattle.layout.proofs.Ladder.{geometry}
 use Rattle.stored.specs.Stored.{mask, complementedIn, complementedImage}
 use Rattle.stored.proofs.Forms.{mask-fits}
@@ -73,19 +73,19 @@ module _ (layout : Layout) where
       (λ l. rw (List·getD-eq-default (freshImage layout) 0 {n = k} (rw length-fresh l)) (pow-pos 32))
       (split-below k (rowsOf layout * blocks layout))
 
-  -- a row of a block of it, as the code has it, is zero
   module _ (accepted : layoutRefusal layout ≡ 0) (block : ℕ) (inside : block < blocks layout) where
-    fresh-row : (j : ℕ) → j < rowsOf layout → getD (gathered layout block (freshImage layout)) j 0 ≡ 0
+    -- a row of a block of it
+    pub fresh-word : (j : ℕ) → j < rowsOf layout → getD (freshImage layout) (index layout block (suc j)) 0 ≡ mask (suc j)
     unfolding freshImage
-    fresh-row j h =
+    fresh-word j h =
         let first = geometry layout accepted .s-first in
-        let row : rowAt layout (index layout block (suc j)) ≡ suc j = ap suc (row-of (rowsOf layout) (layout .s) first block j h) in
-        gathered-row layout block (freshImage layout) j h
-        ∙ ap (complementedIn (suc j))
-        (getD-listOf (rowsOf layout * blocks layout) (freshWord layout) (index layout block (suc j))
-        (in-range (rowsOf layout) (layout .s) first (layout .g) block (suc j) inside (omega arith) h)
-        ∙ ap mask row)
-        ∙ xor-self (mask (suc j))
+        getD-listOf (rowsOf layout * blocks layout) (freshWord layout) (index layout block (suc j)) (row-below layout first block (suc j) inside (omega arith) h)
+        ∙ ap mask (row-at-index layout first block j h)
+
+    -- as the code has it, it is zero
+    fresh-row : (j : ℕ) → j < rowsOf layout → getD (gathered layout block (freshImage layout)) j 0 ≡ 0
+    fresh-row j h =
+        gathered-row layout block (freshImage layout) j h ∙ ap (complementedIn (suc j)) (fresh-word j h) ∙ xor-self (mask (suc j))
 
     pub fresh-block : SameRows (shapeOf layout) (gathered layout block (freshImage layout)) (validBlock (shapeOf layout) (replicate (wordsOf layout) 0))
     fresh-block =

@@ -5,29 +5,20 @@ use mathlib.Core.List.{List}
 use native.Mathlib.Omega.{arith}
 use native.Mathlib.Decide.{decLt}
 use lib.ListN.{length, getD}
-use lib.Dec.{lit≤}
 use lib.Pow.{pow-pos}
 use lib.Seq.{ext-getD}
-use Rattle.shape.specs.declared.Shape.{Shape}
-use Rattle.shape.specs.declared.Shape.the-variants.{One, Two}
-use Rattle.shape.specs.Shape.{rows}
 use Rattle.stored.specs.Stored.{complementedIn, complemented}
 use Rattle.stored.proofs.Forms.{length-complemented, row-complemented, rest-complemented, complemented-fits, complemented-twice}
 use Rattle.block.specs.Block.{blank, Fitting}
 use Rattle.ground.proofs.Lists.{zeros-at}
 use Rattle.ground.proofs.Stores.{length-stores, stores-miss, stores-hit, stores-agree, stores-same, stores-all}
 use Rattle.ground.specs.Stores.{stores}
-use Rattle.shape.proofs.Sizes.{rows-fit}
+use Rattle.shape.proofs.Sizes.{rows-fit, rows-least}
 use Rattle.layout.specs.declared.Layout.{Layout}
 use Rattle.layout.specs.Layout.{shapeOf, rowsOf, index}
 use Rattle.store.specs.Image.{storedRows, withRows, gathered, placed, Untouched}
 use Rattle.store.specs.Inner.{strideRead, strideWrite, taken, put}
 use Rattle.layout.proofs.Index.{stride, one-to-one}
-
--- a block has more rows than those that are stored complemented
-pub two-rows-least : (shape : Shape) → 2 ≤ rows shape
-two-rows-least One = lit≤ tt
-two-rows-least Two = lit≤ tt
 
 -- ---- the stored rows of one block
 
@@ -101,7 +92,7 @@ module _ (layout : Layout) (block : ℕ) where
   pub gathered-rest : (image : List ℕ) (k : ℕ) → rowsOf layout ≤ k → getD (gathered layout block image) k 0 ≡ 0
   unfolding gathered
   gathered-rest image k h =
-      rest-complemented (storedRows layout block image) k (omega (arith, two-rows-least (shapeOf layout))) ∙ rows-rest layout block image k h
+      rest-complemented (storedRows layout block image) k (omega (arith, rows-least (shapeOf layout))) ∙ rows-rest layout block image k h
 
   pub gathered-row : (image : List ℕ) (k : ℕ) → k < rowsOf layout
       → getD (gathered layout block image) k 0 ≡ complementedIn (suc k) (getD image (index layout block (suc k)) 0)
@@ -173,7 +164,7 @@ module _ (layout : Layout) (block : ℕ) where
   gathered-placed first given image inside len rest =
       ap complemented
       (put-back (complemented given) (length-complemented given ∙ len)
-      (λ k h. rest-complemented given k (omega (arith, two-rows-least (shapeOf layout))) ∙ rest k h))
+      (λ k h. rest-complemented given k (omega (arith, rows-least (shapeOf layout))) ∙ rest k h))
       ∙ complemented-twice given
     where
       put-back : (given : List ℕ) → length given ≡ 72 → ((k : ℕ) → rowsOf layout ≤ k → getD given k 0 ≡ 0)

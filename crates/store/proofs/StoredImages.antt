@@ -11,20 +11,16 @@ use lib.Seq.{ext-getD, set-out, getD-set-same, getD-set-other}
 use Rattle.lane.proofs.Rows.{split-below}
 use Rattle.ground.specs.Stores.{stores}
 use Rattle.ground.proofs.Stores.{stores-agree}
-use Rattle.shape.proofs.Sizes.{rows-fit}
+use Rattle.shape.proofs.Sizes.{rows-fit, rows-least}
 use Rattle.layout.specs.declared.Layout.{Layout}
 use Rattle.layout.specs.Layout.{shapeOf, rowsOf, index, rowAt}
-use Rattle.layout.proofs.Index.{row-of}
+use Rattle.layout.proofs.RowsInside.{row-at-index}
 use Rattle.stored.specs.Stored.{complementedIn, complemented, complementedImage}
 use Rattle.stored.proofs.Forms.{length-complemented, row-complemented, rest-complemented, complemented-twice, length-image, word-image}
 use Rattle.store.specs.Image.{storedRows, withRows, gathered, placed}
-use Rattle.store.proofs.Image.{length-rows, rows-rest, rows-row, two-rows-least}
+use Rattle.store.proofs.Image.{length-rows, rows-rest, rows-row}
 
 module _ (layout : Layout) (first : 1 ≤ layout .s) where
-  -- the word at the index of a row is that row's
-  pub row-at-index : (block k : ℕ) → k < rowsOf layout → rowAt layout (index layout block (suc k)) ≡ suc k
-  row-at-index block k h = ap suc (row-of (rowsOf layout) (layout .s) first block k h)
-
   module _ (block : ℕ) (image : List ℕ) (inside : (k : ℕ) → k < rowsOf layout → index layout block (suc k) < length image) where
     rows-complemented : storedRows layout block (complementedImage layout image) ≡ complemented (storedRows layout block image)
     rows-complemented =
@@ -35,10 +31,10 @@ module _ (layout : Layout) (first : 1 ≤ layout .s) where
         (λ k h. elim (decLt k (rowsOf layout)) [
           | yes l ↦ rows-row layout block other k l
               ∙ word-image layout image (index layout block (suc k)) (inside k l)
-              ∙ ap₂ complementedIn (row-at-index block k l) (sym (rows-row layout block image k l))
+              ∙ ap₂ complementedIn (row-at-index layout first block k l) (sym (rows-row layout block image k l))
               ∙ sym (row-complemented stored k (omega (arith, size, rows-fit (shapeOf layout))))
           | no l ↦ rows-rest layout block other k (omega arith)
-              ∙ sym (rest-complemented stored k (omega (arith, two-rows-least (shapeOf layout))) ∙ rows-rest layout block image k (omega arith))
+              ∙ sym (rest-complemented stored k (omega (arith, rows-least (shapeOf layout))) ∙ rows-rest layout block image k (omega arith))
         ])
 
     -- the code's block there is what is stored here
@@ -91,5 +87,5 @@ module _ (layout : Layout) (first : 1 ≤ layout .s) where
   unfolding placed withRows
   placed-complemented block given image long =
       stores-agree (complementedImage layout image) (λ k. index layout block (suc k)) _ _ (rowsOf layout)
-      (λ k h. row-complemented given k (omega arith) ∙ ap (λ (p : ℕ). complementedIn p (getD given k 0)) (sym (row-at-index block k h)))
+      (λ k h. row-complemented given k (omega arith) ∙ ap (λ (p : ℕ). complementedIn p (getD given k 0)) (sym (row-at-index layout first block k h)))
       ∙ sym (stores-complemented image (λ k. index layout block (suc k)) (λ k. getD given k 0) (rowsOf layout))

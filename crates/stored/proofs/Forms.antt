@@ -16,7 +16,7 @@ use Rattle.lane.proofs.Rows.{split-below}
 use Rattle.ground.proofs.Lists.{length-listOf, getD-listOf}
 use Rattle.layout.specs.declared.Layout.{Layout}
 use Rattle.layout.specs.Layout.{rowAt}
-use Rattle.stored.specs.Stored.{ones, mask, complementedIn, complemented, complementedImage}
+use Rattle.stored.specs.Stored.{ones, mask, complementedIn, complementedBy, complemented, complementedImage}
 
 -- ---- a word
 
@@ -38,16 +38,37 @@ word-fits p w h = xor-lt 32 w (mask p) h (mask-fits p)
 pub word-past : (p w : ℕ) → 2 < p → complementedIn p w ≡ w
 word-past p w h = rw (lt-leb p 2 h) (xor-zero-r w)
 
+-- ---- words, whichever rows they are of
+
+module _ (rowOf : ℕ → ℕ) where
+  length-by : (words : List ℕ) → length (complementedBy rowOf words) ≡ length words
+  length-by words = length-listOf (length words) _
+
+  word-by : (words : List ℕ) (at : ℕ) → at < length words → getD (complementedBy rowOf words) at 0 ≡ complementedIn (rowOf at) (getD words at 0)
+  word-by words at h = getD-listOf (length words) (λ at. complementedIn (rowOf at) (getD words at 0)) at h
+
+  twice-by : (words : List ℕ) → complementedBy rowOf (complementedBy rowOf words) ≡ words
+  twice-by words =
+      let once = complementedBy rowOf words in
+      ext-getD 0 (complementedBy rowOf once) words (length-by once ∙ length-by words)
+      (λ at h.
+      let l : at < length words = omega (arith, length-by once, length-by words) in
+      word-by once at (rw (length-by words) l) ∙ ap (complementedIn (rowOf at)) (word-by words at l) ∙ word-twice (rowOf at) (getD words at 0))
+
 -- ---- a block
 
 module _ (block : List ℕ) where
   pub length-complemented : length (complemented block) ≡ length block
   unfolding complemented
-  length-complemented = length-listOf (length block) _
+  length-complemented = length-by suc block
 
   pub row-complemented : (k : ℕ) → k < length block → getD (complemented block) k 0 ≡ complementedIn (suc k) (getD block k 0)
   unfolding complemented
-  row-complemented k h = getD-listOf (length block) (λ k. complementedIn (suc k) (getD block k 0)) k h
+  row-complemented = word-by suc block
+
+  pub complemented-twice : complemented (complemented block) ≡ block
+  unfolding complemented
+  complemented-twice = twice-by suc block
 
   -- the words past the end are none in both forms
   pub past-complemented : (k : ℕ) → length block ≤ k → getD (complemented block) k 0 ≡ 0
@@ -66,30 +87,17 @@ module _ (block : List ℕ) where
       (λ l. rw (past-complemented k l) (pow-pos 32))
       (split-below k (length block))
 
-pub complemented-twice : (block : List ℕ) → complemented (complemented block) ≡ block
-complemented-twice block =
-    ext-getD 0 _ block (length-complemented (complemented block) ∙ length-complemented block)
-    (λ k h.
-    let l : k < length block = omega (arith, length-complemented (complemented block), length-complemented block) in
-    row-complemented (complemented block) k (rw (length-complemented block) l) ∙ ap (complementedIn (suc k)) (row-complemented block k l)
-    ∙ word-twice (suc k) (getD block k 0))
-
 -- ---- an image
 
-module _ (layout : Layout) where
-  module _ (image : List ℕ) where
-    pub length-image : length (complementedImage layout image) ≡ length image
-    unfolding complementedImage
-    length-image = length-listOf (length image) _
+module _ (layout : Layout) (image : List ℕ) where
+  pub length-image : length (complementedImage layout image) ≡ length image
+  unfolding complementedImage
+  length-image = length-by (rowAt layout) image
 
-    pub word-image : (at : ℕ) → at < length image → getD (complementedImage layout image) at 0 ≡ complementedIn (rowAt layout at) (getD image at 0)
-    unfolding complementedImage
-    word-image at h = getD-listOf (length image) (λ at. complementedIn (rowAt layout at) (getD image at 0)) at h
+  pub word-image : (at : ℕ) → at < length image → getD (complementedImage layout image) at 0 ≡ complementedIn (rowAt layout at) (getD image at 0)
+  unfolding complementedImage
+  word-image = word-by (rowAt layout) image
 
-  pub image-twice : (image : List ℕ) → complementedImage layout (complementedImage layout image) ≡ image
-  image-twice image =
-      ext-getD 0 _ image (length-image (complementedImage layout image) ∙ length-image image)
-      (λ at h.
-      let l : at < length image = omega (arith, length-image (complementedImage layout image), length-image image) in
-      word-image (complementedImage layout image) at (rw (length-image image) l) ∙ ap (complementedIn (rowAt layout at)) (word-image image at l)
-      ∙ word-twice (rowAt layout at) (getD image at 0))
+  pub image-twice : complementedImage layout (complementedImage layout image) ≡ image
+  unfolding complementedImage
+  image-twice = twice-by (rowAt layout) image

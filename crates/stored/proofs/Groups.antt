@@ -8,7 +8,7 @@ use native.Mathlib.Nat.{add-mul, mul-le-mul-right, mul-comm, mul-right-comm, mul
 use native.Mathlib.Omega.{arith}
 use lib.Arith.{digits-mod}
 use lib.Bits.{bitXor, xor-zero-r}
-use lib.Dec.{ltb, lit≤}
+use lib.Dec.{ltb}
 use lib.ListN.{length, getD, set}
 use lib.Seq.{set-getD}
 use borrow.Author.Tests.{lt-ltb, le-ltb, le-leb, lt-leb}
@@ -17,9 +17,7 @@ use Rattle.ground.specs.Stores.{stores}
 use Rattle.ground.proofs.Choices.{refused-kept}
 use Rattle.ground.proofs.Lists.{list-is, listOf-same}
 use Rattle.ground.proofs.Stores.{length-stores, stores-hit, stores-miss, stores-more}
-use Rattle.shape.specs.declared.Shape.{Shape}
-use Rattle.shape.specs.declared.Shape.the-variants.{One, Two}
-use Rattle.shape.specs.Shape.{rows}
+use Rattle.shape.proofs.Sizes.{rows-least}
 use Rattle.layout.specs.declared.Layout.{Layout}
 use Rattle.layout.specs.Layout.{shapeOf, rowsOf, groupWords, rowAt}
 use Rattle.layout.specs.Refusal.{imageRefusal}
@@ -141,10 +139,6 @@ module _ (image : List ℕ) (first group : ℕ) where
 
 -- ---- the groups of a layout
 
-two-fit : (shape : Shape) → 2 ≤ rows shape
-two-fit One = lit≤ tt
-two-fit Two = lit≤ tt
-
 module _ (layout : Layout) (first : 1 ≤ layout .s) where
   -- the place in a group tells the row
   mask-at : (at : ℕ) → maskIn (2 * layout .s) (groupWords layout) at ≡ mask (rowAt layout at)
@@ -175,7 +169,7 @@ module _ (image : List ℕ) (layout : Layout) where
     unfolding stores
     none-done =
         let s = layout .s in
-        let tall = mul-le-mul-right s (two-fit (shapeOf layout)) in
+        let tall = mul-le-mul-right s (rows-least (shapeOf layout)) in
         record {
           groups = layout .g;
           size =

@@ -24,13 +24,17 @@ mask p = cond (leb p 2) ones 0
 abbrev pub complementedIn : ℕ → ℕ → ℕ
 complementedIn p word = bitXor word (mask p)
 
+-- words with those of rows 1 and 2 complemented, where each index is that of a row
+abbrev pub complementedBy : (rowOf : ℕ → ℕ) → List ℕ → List ℕ
+complementedBy rowOf words = listOf (length words) (λ at. complementedIn (rowOf at) (getD words at 0))
+
 -- the block as it is stored, from the code's; and the code's, from the stored one: it is its own inverse
 unfoldable pub complemented : List ℕ → List ℕ
-complemented block = listOf (length block) (λ k. complementedIn (suc k) (getD block k 0))
+complemented block = complementedBy suc block
 
 -- the same of every block of an image
 unfoldable pub complementedImage : Layout → List ℕ → List ℕ
-complementedImage layout image = listOf (length image) (λ at. complementedIn (rowAt layout at) (getD image at 0))
+complementedImage layout image = complementedBy (rowAt layout) image
 
 -- the promise of complement_block
 abbrev pub ComplementsBlock : List ℕ → List ℕ → Type 0
