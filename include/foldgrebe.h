@@ -3,7 +3,8 @@
    A block holds 11 data words in 16 rows (shape 1) or 64 data words in 72 rows (shape 2); a row is one word. Bit i of
    every row is lane i. One flipped bit in each lane is mended; two in one lane are noticed, and the block is then lost,
    with the lanes of each of the two kinds of lost counted. The words of rows 1 and 2 are stored complemented, so that a dead
-   chip shows: a block that reads all zeros, or all ones, is lost in 32 lanes, all with even parity.
+   chip shows: a block that reads all zeros, or all ones, is lost in 32 lanes, all with even parity. So memory that was only
+   set to zero is no image: format it.
    An image has N = s * g blocks (s from 1 to 16, N at most 4096) and exactly rows * N words. Blocks are numbered from 0.
    Neighbouring words belong to s different blocks, so that a hit on up to s words in a row harms s blocks a little.
 
@@ -33,7 +34,7 @@
    A file is an image as bytes, to be sent or kept: byte 0 is the version, 2; bytes 1 to 4 say how many bytes come after
    byte 4; then come one byte for the shape, one for s, two for g, and from byte 9 on the words of the image. All numbers
    have their highest byte first. The record is not in it. A file of version 1, from before rows 1 and 2 were complemented, is
-   read too: these rows are complemented on the way in. None is written.
+   read too: these rows of each block are complemented on the way in. None is written.
 
    What the caller owes:
    - each pointer points at as many words, or for a file bytes, as its count or its array says, and is not NULL, also
@@ -63,7 +64,8 @@ extern "C" {
 #define FOLDGREBE_CLEAN  1   /* count and beyond 0 */
 #define FOLDGREBE_MENDED 2   /* count: the bits changed, from 1 to 32; beyond 0 */
 #define FOLDGREBE_LOST   3   /* count: the lanes lost with even parity; beyond: those with an odd sum beyond the rows, 0 in shape 1; together 1 to 32 */
-/* To a workshop: lanes lost with even parity are even damage, so reboot; lanes lost beyond the rows are odd damage, so swap the memory. */
+/* To a workshop: lanes lost with even parity are even damage, so reboot; lanes lost beyond the rows are odd damage, so swap the memory.
+   Where every block says 32 and 0, again after a reboot, the chip may be dead: no reboot helps then. */
 
 /* A turn's report: the patrol's block and its verdict's words, then the block asked for and its verdict's words. */
 #define FOLDGREBE_REPORT_BLOCK       0
@@ -129,8 +131,8 @@ uint32_t foldgrebe_file_write (const uint32_t *image, size_t words, uint32_t sha
    as the inspecting program does. */
 uint32_t foldgrebe_file_layout(const uint8_t *file, size_t bytes, uint32_t layout[FOLDGREBE_LAYOUT_WORDS]);
 
-/* Copies the file's words to an image of exactly rows * s * g words, by its own layout, which it tells too; rows 1 and 2 of
-   a version 1 file are complemented on the way in, and nothing is mended. Refuses as file_layout does, and then 4 where the
+/* Copies the file's words to an image of exactly rows * s * g words, by its own layout, which it tells too; of a
+   version 1 file rows 1 and 2 of each block are complemented on the way in, and nothing is mended. Refuses as file_layout does, and then 4 where the
    image is of another length. Refused, the image stays as it was. */
 uint32_t foldgrebe_file_read  (const uint8_t *file, size_t bytes, uint32_t *image, size_t words, uint32_t layout[FOLDGREBE_LAYOUT_WORDS]);
 

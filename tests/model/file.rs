@@ -65,9 +65,14 @@ fn change_version(image: &mut [u32], [shape, s, g]: Told) {
     }
 }
 
-/// The image that a file which is not refused holds; of a version 1 file rows 1 and 2 of each block are complemented on the way in.
+/// The words of a file which is not refused, as they stand.
+fn words_in(file: &[u8]) -> Vec<u32> {
+    file[HEADER..].chunks(4).map(|word| number_in(word) as u32).collect()
+}
+
+/// The image that such a file holds; of a version 1 file rows 1 and 2 of each block are complemented on the way in.
 fn image_in(file: &[u8]) -> Vec<u32> {
-    let mut image: Vec<u32> = file[HEADER..].chunks(4).map(|word| number_in(word) as u32).collect();
+    let mut image = words_in(file);
     if file[0] == OLD_VERSION {
         change_version(&mut image, told(file));
     }
@@ -125,13 +130,15 @@ pub fn inspect(file: &[u8]) -> String {
         return format!("refused {number}\n");
     }
     let [shape, s, g] = told(file);
-    let mut image = image_in(file);
+    let words = words_in(file);
     let n = store::blocks(s, g);
     let mut text = format!("image shape {shape} interleave {s} groups {g} blocks {n}\n");
     let mut blocks = [0; 4];
     let mut bits = 0;
     for b in 0..n as u32 {
-        let outcome = store::visit_block(&mut image, shape, s, b);
+        let found = store::words_at(&words, shape, s, b);
+        // A version 1 file prints what it printed: its words are judged as they stand, which was the rule then.
+        let (outcome, _) = block::mended(&if file[0] == OLD_VERSION { found } else { block::stored(&found) });
         let verdict = ["", "clean", "mended", "lost"][outcome.verdict as usize];
         let second = if outcome.verdict == 3 { format!(" {}", outcome.beyond) } else { String::new() };
         text += &format!("block {b} {verdict} {}{second}\n", outcome.count);

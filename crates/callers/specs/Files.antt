@@ -20,7 +20,7 @@ pub record CallerWrote (image : List ℕ) (layout : Layout) (buffer kept after w
   pub file : take (9 + 4 * length image) after ≡ fileOf layout image
   pub past : drop (9 + 4 * length image) after ≡ drop (9 + 4 * length image) buffer
 
--- of what was read from a file: accepted, another file of as many bytes is written, and the bytes past it stay
+-- of what was read from a file: accepted, a file of as many bytes is written, and the bytes past it stay
 pub record CallerWritten (bytes buffer file : List ℕ) (number : ℕ) (after written : List ℕ) : Type 0 where
   pub accepted : number ≡ 0
   pub count : written ≡ length bytes ∷ []

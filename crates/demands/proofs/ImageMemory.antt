@@ -6,11 +6,9 @@ use mathlib.Core.List.{List}
 use mathlib.Core.Logic.{by-cases}
 use native.Mathlib.Decide.{ℕ-discrete}
 use native.Mathlib.Omega.{arith}
-use lib.ListN.{length, getD, replicate}
-use Rattle.lane.specs.Bit.{bit, _⊕_}
+use lib.ListN.{length, replicate}
+use Rattle.lane.specs.Bit.{_⊕_}
 use Rattle.lane.specs.Lane.{diff, apart}
-use Rattle.lane.proofs.Bits.{bit-xor}
-use Rattle.stored.specs.Stored.{mask}
 use Rattle.lane.proofs.Distance.{empty}
 use Rattle.lane.proofs.Linear.{count-same}
 use Rattle.shape.specs.declared.Shape.{Shape}
@@ -29,7 +27,7 @@ use Rattle.store.specs.Image.{gathered, placed}
 use Rattle.store.specs.Fresh.{freshImage}
 use Rattle.store.specs.Visit.{visitAfter}
 use Rattle.store.proofs.After.{visit-untouched, visit-words, visit-held}
-use Rattle.store.proofs.Image.{length-gathered, gathered-row, gathered-words, length-placed, placed-words, placed-untouched, gathered-placed}
+use Rattle.store.proofs.Image.{length-gathered, same-bit, gathered-words, length-placed, placed-words, placed-untouched, gathered-placed}
 use Rattle.rota.specs.Memory.{Memory}
 use Rattle.demands.specs.Steps.{flipped}
 use Rattle.demands.proofs.Index.{blockAt, rowsPast, only-at}
@@ -108,13 +106,9 @@ module _ (len : ℕ) (layout : Layout) (fits : imageRefusal len layout ≡ 0) wh
     row-kept : (k : ℕ) → k < rows shape → (u .0 ≡ blockAt layout at → k ≡ rowsPast layout at → u .1 ≡ nth → ⊥)
         → lane (u .1) (gathered layout (u .0) (flipped at nth image)) (suc k) ≡ lane (u .1) (gathered layout (u .0) image) (suc k)
     row-kept k h ne =
-        ap (bit (u .1)) (gathered-row layout (u .0) (flipped at nth image) k h)
-        ∙ bit-xor (u .1) (getD (flipped at nth image) (index layout (u .0) (suc k)) 0) (mask (suc k))
-        ∙ ap (λ (b : Bool). b ⊕ bit (u .1) (mask (suc k)))
+        same-bit layout (u .0) (u .1) (flipped at nth image) image k h
         (other-bit at nth image (index layout (u .0) (suc k)) (u .1)
         (λ e f. let q = only-at layout first at (u .0) k h e in ne (q .0) (q .1) f))
-        ∙ sym (bit-xor (u .1) (getD image (index layout (u .0) (suc k)) 0) (mask (suc k)))
-        ∙ sym (ap (bit (u .1)) (gathered-row layout (u .0) image k h))
 
     pub flip-elsewhere : ((blockAt layout at, nth) ≡ u → ⊥) → (list : List ℕ) (k : ℕ) → OffBy k image u list → OffBy k (flipped at nth image) u list
     flip-elsewhere ne list k off l =

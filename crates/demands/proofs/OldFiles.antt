@@ -1,6 +1,6 @@
 -- The report of a file of version 1 is that of its own words by the old rule. Assumes nothing.
 use Prim.Native.Nat.{ℕ, zero, suc, _≤_, _<_}
-use mathlib.Core.Path.{_≡_, refl, sym, ap, ap₂, _∙_}
+use mathlib.Core.Path.{_≡_, refl, sym, ap, _∙_}
 use mathlib.Core.List.{List}
 use mathlib.Core.Logic.{inl, inr, ⊎-elim}
 use native.Mathlib.Omega.{arith}
@@ -14,7 +14,6 @@ use Rattle.layout.proofs.Ladder.{block-accepted}
 use Rattle.stored.specs.Stored.{complementedImage}
 use Rattle.stored.proofs.Forms.{length-image}
 use Rattle.block.specs.Block.{mendedBlock}
-use Rattle.block.specs.declared.Verdict.{Verdict}
 use Rattle.block.specs.Verdict.{verdictOf}
 use Rattle.block.proofs.Blocks.{length-mended}
 use Rattle.store.specs.Image.{storedRows, gathered}
@@ -24,27 +23,13 @@ use Rattle.store.proofs.StoredImages.{gathered-complemented, placed-complemente
 use Rattle.ground.specs.Rules.{NoneOf, FirstGiven}
 use Rattle.file.specs.Bytes.{versionIn, layoutIn, wordsIn, imageIn}
 use Rattle.file.specs.Reason.{badVersion, fileRules}
-use Rattle.file.proofs.Ladder.{header-image}
-use Rattle.file.proofs.Layouts.{length-words, words-layout}
+use Rattle.file.proofs.Layouts.{words-held}
 use Rattle.text.specs.Page.{endToEnd}
-use Rattle.report.specs.Lines.{counted}
-use Rattle.report.specs.Report.{visitedBelow, verdictAt, blockLines, tallyBelow, linesBy, imageReport}
+use Rattle.report.specs.Report.{visitedBelow, verdictAt, imageReport}
 use Rattle.report.proofs.Visited.{length-visited}
+use Rattle.report.proofs.SameLines.{lines-same}
 use Rattle.demands.specs.OldFiles.{oldVisit, oldVisited, oldVerdict, oldReport, oldRules, OldPrinted}
 use Rattle.demands.proofs.Files.{file-in-order, file-reported}
-
--- lines and tally are told by the verdicts below the number of blocks
-module _ (u v : ℕ → Verdict) where
-  blocks-same : (n : ℕ) → ((k : ℕ) → k < n → u k ≡ v k) → (blockLines u n ≡ blockLines v n) × (tallyBelow u n ≡ tallyBelow v n)
-  unfolding blockLines tallyBelow
-  blocks-same zero same = (refl, refl)
-  blocks-same (suc n) same =
-      let less = blocks-same n (λ k h. same k (omega arith)) in
-      let last = same n (omega arith) in
-      (rw (less .0, last), ap₂ counted last (less .1))
-
-  lines-same : (layout : Layout) → ((k : ℕ) → k < blocks layout → u k ≡ v k) → linesBy layout u ≡ linesBy layout v
-  lines-same layout same = let both = blocks-same (blocks layout) same in rw (both .0, both .1)
 
 module _ (words : List ℕ) (layout : Layout) (passed : imageRefusal (length words) layout ≡ 0) where
   abbrev image : List ℕ
@@ -120,10 +105,8 @@ old-printed bytes out end left version i =
       refused = λ number given. report .refused number (given-now bytes version number given);
       accepted = λ none.
           let accepted = file-in-order bytes .accepted .1 (none-now bytes version none) in
-          let fits : imageRefusal (length (wordsIn bytes)) (layoutIn bytes) ≡ 0 =
-          rw (length-words bytes) (words-layout bytes (layoutIn bytes) (sym (header-image bytes accepted))) in
           let held : imageIn bytes ≡ complementedImage (layoutIn bytes) (wordsIn bytes) = rw version in
           report .accepted (none-now bytes version none)
           ∙ ap (λ (image : List ℕ). endToEnd (imageReport image (layoutIn bytes))) held
-          ∙ ap endToEnd (report-as (wordsIn bytes) (layoutIn bytes) fits);
+          ∙ ap endToEnd (report-as (wordsIn bytes) (layoutIn bytes) (words-held bytes accepted));
     }

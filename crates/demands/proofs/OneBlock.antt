@@ -19,7 +19,7 @@ use Rattle.block.specs.declared.Verdict.the-variants.{Lost}
 use Rattle.block.specs.Verdict.{verdictNumber, verdictCount, verdictBeyond, Said, saidOf, verdict, verdictOf}
 use Rattle.block.proofs.Blocks.{kept-valid, kept-near, near-none, near-rows, mended-fits, length-mended}
 use Rattle.store.specs.declared.Answer.the-variants.{Found}
-use Rattle.store.proofs.StoredBlocks.{apart-stored, same-stored}
+use Rattle.store.proofs.StoredBlocks.{apart-stored, bits-stored, same-stored}
 use Rattle.block.proofs.Told.{three-lost, lost-three, kept-count, clean-none, none-clean, counts, few-lost, kinds-lost, beyond-one, clean-left}
 use Rattle.demands.specs.Demand2.{ValidStored, Meant, LaneLost, LaneLostAs, CountsLanes, Mends}
 use Rattle.demands.proofs.SameBlocks.{same-apart}
@@ -109,8 +109,8 @@ module _ (shape : Shape) (found : List ℕ) (fits : Fitting found) (long : rows 
       ∙ apart-stored shape code coded code-long coded-long i
 
   bits-left : bitsChanged shape found left ≡ changed
-  unfolding bitsChanged
-  bits-left = total-same 32 _ _ (λ i h. off-left i)
+  bits-left =
+      ap (λ (b : List ℕ). bitsChanged shape b left) (sym (complemented-twice found)) ∙ bits-stored shape code coded code-long coded-long
 
   left-meant : lost ≡ 0 → Meant shape found left
   left-meant none =

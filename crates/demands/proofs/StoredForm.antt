@@ -7,7 +7,7 @@ use mathlib.Core.Logic.{inl, inr, ⊎-elim}
 use native.Mathlib.Omega.{arith}
 use lib.Bits.{bitXor}
 use lib.Dec.{lit<}
-use lib.ListN.{length, getD, List·getD-eq-default}
+use lib.ListN.{length, getD, take, List·getD-eq-default}
 use lib.Pow.{pow-pos}
 use borrow.Author.Tests.{le-leb, lt-leb}
 use Rattle.ground.specs.Totals.{total}
@@ -31,7 +31,7 @@ use Rattle.layout.specs.Refusal.{imageRefusal}
 use Rattle.layout.proofs.RowsInside.{row-at-index, interleaved, row-inside}
 use Rattle.layout.proofs.Ladder.{image-layout, block-image, accepted}
 use Rattle.stored.specs.Stored.{mask, complementedIn, complemented, complementedImage}
-use Rattle.stored.proofs.Forms.{word-past, row-complemented, rest-complemented, complemented-twice, word-image, image-twice}
+use Rattle.stored.proofs.Forms.{word-kept, row-complemented, rest-complemented, complemented-twice, word-image, image-twice}
 use Rattle.block.specs.Block.{lanesLost, lanesLostAs, bitsChanged, mendedBlock, Fitting}
 use Rattle.block.specs.declared.Verdict.the-variants.{Lost}
 use Rattle.block.specs.Verdict.{Said, saidOf, verdict, verdictOf}
@@ -53,11 +53,18 @@ use Rattle.patrol.specs.declared.Turned.{Turned}
 use Rattle.patrol.specs.Format.{Formats}
 use Rattle.patrol.specs.Numbers.{reportNumber, reportFirst, reportSecond}
 use Rattle.patrol.specs.Turn.{Turns}
+use Rattle.file.specs.Bytes.{versionIn, layoutIn, wordsIn, imageIn}
+use Rattle.file.specs.Refusal.{fileRefusal}
+use Rattle.file.proofs.Layouts.{words-held}
+use Rattle.text.specs.Page.{endToEnd}
+use Rattle.report.specs.Report.{verdictAt, linesBy, imageReport, Inspects}
 use Rattle.report.proofs.Visited.{verdict-read}
+use Rattle.report.proofs.SameLines.{lines-same}
 use Rattle.demands.specs.Demand2.{LaneLostAs, Turning}
 use Rattle.demands.specs.StoredForm.{RowIn, Dead, LostWhole, StoredForm}
 use Rattle.demands.proofs.Numbers.{visit-number}
 use Rattle.demands.proofs.Demand2.{demand-2}
+use Rattle.demands.proofs.Files.{accepted-lines}
 
 -- ---- rows
 
@@ -153,6 +160,19 @@ module _ (image : List ℕ) (layout : Layout) (block : ℕ) where
         demand-2 .visit image layout block answer after fits v z .lost-unaltered says,
       )
 
+  pub dead-block-read : (buffer : List ℕ) (answer : Answer) (kept filled : List ℕ) → Fitting image
+      → Dead (rowsOf layout) (storedRows layout block image)
+      → Reads image layout block buffer answer kept filled
+      → answerNumber answer ≡ 0
+      → LostWhole (answerSaid answer) × (filled ≡ buffer)
+  dead-block-read buffer answer kept filled fits dead r z =
+      let v = visits image layout block refl refl in
+      let d = demand-2 .read image layout block buffer answer kept filled fits r z _ _ v in
+      let lost = dead-block _ _ fits dead v (sym (ap answerNumber (d .same)) ∙ z) .0 in
+      let same = d .same in
+      let whole : LostWhole (answerSaid answer) = rw same lost in
+      (whole, d .stays (whole .verdict))
+
 -- ---- a dead image
 
 module _ (image : List ℕ) (layout : Layout) (dead : Dead (length image) image) where
@@ -165,28 +185,31 @@ module _ (image : List ℕ) (layout : Layout) (dead : Dead (length image) image)
 
   module _ (block : ℕ) (passed : imageRefusal (length image) layout ≡ 0) (there : block < blocks layout) where
     row-dead : (w : ℕ) → ((k : ℕ) → k < length image → getD image k 0 ≡ w) → (k : ℕ) → k < rowsOf layout → getD (storedRows layout block image) k 0 ≡ w
-    row-dead w all k h = rows-row layout block image k h ∙ all (index layout block (suc k)) (row-inside layout (length image) passed block (suc k) there (omega arith) h)
+    row-dead w all k h =
+        rows-row layout block image k h
+        ∙ all (index layout block (suc k)) (row-inside layout (length image) passed block (suc k) there (omega arith) h)
 
     rows-dead : Dead (rowsOf layout) (storedRows layout block image)
     rows-dead = ⊎-elim (λ zeros. inl (row-dead 0 zeros)) (λ ones. inr (row-dead 0xFFFFFFFF ones)) dead
 
+  -- of a block that a visit accepts
+  found-dead : (block : ℕ) (answer : Answer) (after : List ℕ) → Visits image layout block answer after → answerNumber answer ≡ 0
+      → Dead (rowsOf layout) (storedRows layout block image)
+  found-dead block answer after v z =
+      let passed = sym (visit-number image layout block) ∙ sym (ap answerNumber (visits-answer image layout block v)) ∙ z in
+      rows-dead block (block-image layout (length image) block passed) (accepted layout (length image) block passed .inside)
+
   dead-visit : (block : ℕ) (answer : Answer) (after : List ℕ) → Visits image layout block answer after → answerNumber answer ≡ 0
       → LostWhole (answerSaid answer) × (after ≡ image)
-  dead-visit block answer after v z =
-      let passed = sym (visit-number image layout block) ∙ sym (ap answerNumber (visits-answer image layout block v)) ∙ z in
-      let ok = accepted layout (length image) block passed in
-      dead-block image layout block answer after dead-fits (rows-dead block (block-image layout (length image) block passed) (ok .inside)) v z
+  dead-visit block answer after v z = dead-block image layout block answer after dead-fits (found-dead block answer after v z) v z
 
   dead-read : (block : ℕ) (buffer : List ℕ) (answer : Answer) (kept filled : List ℕ) → Reads image layout block buffer answer kept filled
       → answerNumber answer ≡ 0
       → LostWhole (answerSaid answer) × (filled ≡ buffer)
   dead-read block buffer answer kept filled r z =
       let v = visits image layout block refl refl in
-      let d = demand-2 .read image layout block buffer answer kept filled dead-fits r z _ _ v in
-      let lost = dead-visit block _ _ v (sym (ap answerNumber (d .same)) ∙ z) .0 in
-      let same = d .same in
-      let whole : LostWhole (answerSaid answer) = rw same lost in
-      (whole, d .stays (whole .verdict))
+      let same = demand-2 .read image layout block buffer answer kept filled dead-fits r z _ _ v .same in
+      dead-block-read image layout block buffer answer kept filled dead-fits (found-dead block _ _ v (sym (ap answerNumber same) ∙ z)) r z
 
 module _ (r : Record) (image : List ℕ) (answer : Turned) (after : List ℕ) (dead : Dead (length image) image) (w : Turns r image answer after)
     (z : reportNumber (answer .report) ≡ 0) where
@@ -216,6 +239,24 @@ module _ (r : Record) (image : List ℕ) (answer : Turned) (after : List ℕ) (d
       × (after ≡ image)
   dead-turn = (rw (passed-on .first) (first-dead .0), λ block rest e. asked-dead block rest e .0, kept-dead (asksOf (r .rota .line)) refl)
 
+-- ---- a dead file
+
+dead-printed : (bytes out : List ℕ) (end : ℕ) (left : List ℕ) → versionIn bytes ≡ 2 → Dead (length (wordsIn bytes)) (wordsIn bytes)
+    → fileRefusal bytes ≡ 0
+    → Inspects bytes out end left
+    → take end left ≡ endToEnd (linesBy (layoutIn bytes) (λ block. Lost 32 0))
+unfolding imageReport
+dead-printed bytes out end left version dead passed i =
+    let layout = layoutIn bytes in
+    let held : imageIn bytes ≡ wordsIn bytes = rw version in
+    i .whole ∙ ap endToEnd (accepted-lines bytes passed)
+    ∙ ap (λ (image : List ℕ). endToEnd (linesBy layout (verdictAt image layout))) held
+    ∙ ap endToEnd
+    (lines-same _ (λ block. Lost 32 0) layout
+    (λ block there.
+    verdict-read (wordsIn bytes) layout block
+    ∙ dead-found (wordsIn bytes) layout block (rows-dead (wordsIn bytes) layout dead block (words-held bytes passed) there)))
+
 pub stored-form : StoredForm
 stored-form =
     record {
@@ -224,16 +265,16 @@ stored-form =
       rows-complemented = λ block k h l. row-complemented block k l ∙ ap (bitXor (getD block k 0)) (low k h);
       rows-kept = rest-complemented;
       image-complemented = λ image layout block p r h. complemented-word image layout block p r ∙ rw (le-leb p 2 h);
-      image-kept = λ image layout block p r h. complemented-word image layout block p r ∙ word-past p _ h;
+      image-kept = λ image layout block p r h. complemented-word image layout block p r ∙ word-kept p _ h;
       fresh-ones = λ image layout answer after f block p r h. formatted-word image layout block f p r ∙ rw (le-leb p 2 h);
       fresh-zeros = λ image layout answer after f block p r h. formatted-word image layout block f p r ∙ rw (lt-leb p 2 h);
       dead-lanes = dead-lanes;
       dead-block = dead-block;
+      dead-block-read = dead-block-read;
       dead-visit = λ image layout block answer after dead. dead-visit image layout dead block answer after;
       dead-read = λ image layout block buffer answer kept filled dead. dead-read image layout dead block buffer answer kept filled;
       dead-turn = dead-turn;
-      dead-printed = λ image layout dead passed block there.
-          verdict-read image layout block ∙ dead-found image layout block (rows-dead image layout dead block passed there);
+      dead-printed = dead-printed;
     }
   where
     low : (k : ℕ) → k < 2 → mask (suc k) ≡ 0xFFFFFFFF

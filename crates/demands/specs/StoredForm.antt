@@ -5,7 +5,7 @@ use mathlib.Core.Path.{_≡_}
 use mathlib.Core.List.{List, _∷_}
 use mathlib.Core.Logic.{_⊎_}
 use lib.Bits.{bitXor}
-use lib.ListN.{length, getD}
+use lib.ListN.{length, getD, take}
 use Rattle.lane.specs.Decision.{even}
 use Rattle.shape.specs.declared.Shape.{Shape}
 use Rattle.shape.specs.Shape.{rows}
@@ -28,7 +28,10 @@ use Rattle.patrol.specs.declared.Turned.{Turned}
 use Rattle.patrol.specs.Format.{Formats}
 use Rattle.patrol.specs.Numbers.{reportNumber, reportFirst, reportSecond}
 use Rattle.patrol.specs.Turn.{Turns}
-use Rattle.report.specs.Report.{verdictAt}
+use Rattle.file.specs.Bytes.{versionIn, layoutIn, wordsIn}
+use Rattle.file.specs.Refusal.{fileRefusal}
+use Rattle.text.specs.Page.{endToEnd}
+use Rattle.report.specs.Report.{linesBy, Inspects}
 use Rattle.demands.specs.Demand2.{LaneLostAs}
 
 -- ---- what is stored, row by row
@@ -77,6 +80,11 @@ pub record StoredForm : Type 0 where
       → Visits image layout block answer after
       → answerNumber answer ≡ 0
       → LostWhole (answerSaid answer) × (after ≡ image)
+  pub dead-block-read : (image : List ℕ) (layout : Layout) (block : ℕ) (buffer : List ℕ) (answer : Answer) (kept filled : List ℕ) → Fitting image
+      → Dead (rowsOf layout) (storedRows layout block image)
+      → Reads image layout block buffer answer kept filled
+      → answerNumber answer ≡ 0
+      → LostWhole (answerSaid answer) × (filled ≡ buffer)
   -- and so is every block of an image of all zeros or all ones, whatever s
   pub dead-visit : (image : List ℕ) (layout : Layout) (block : ℕ) (answer : Answer) (after : List ℕ) → Dead (length image) image
       → Visits image layout block answer after
@@ -91,5 +99,8 @@ pub record StoredForm : Type 0 where
       → LostWhole (reportFirst (answer .report) .said)
       × ((block : ℕ) (rest : List ℕ) → asksOf (r .rota .line) ≡ block ∷ rest → LostWhole (reportSecond (answer .report) .said))
       × (after ≡ image)
-  pub dead-printed : (image : List ℕ) (layout : Layout) → Dead (length image) image → imageRefusal (length image) layout ≡ 0
-      → (block : ℕ) → block < blocks layout → verdictAt image layout block ≡ Lost 32 0
+  -- so of a file of version 2 with such words, where it is accepted, it is printed that every block is lost 32 0
+  pub dead-printed : (bytes out : List ℕ) (end : ℕ) (left : List ℕ) → versionIn bytes ≡ 2 → Dead (length (wordsIn bytes)) (wordsIn bytes)
+      → fileRefusal bytes ≡ 0
+      → Inspects bytes out end left
+      → take end left ≡ endToEnd (linesBy (layoutIn bytes) (λ block. Lost 32 0))

@@ -14,7 +14,7 @@ use Rattle.file.specs.Bytes.{layoutIn, wordCount, wordIn, wordsIn}
 use Rattle.file.specs.Inner.{wordsInto}
 use Rattle.file.specs.Refusal.{fileRefusal}
 use Rattle.file.specs.Header.{headerIf, headerOf}
-use Rattle.file.proofs.Ladder.{accepted, body-words, frame-passed}
+use Rattle.file.proofs.Ladder.{accepted, body-words, frame-passed, header-image}
 
 pub length-words : (bytes : List ℕ) → length (wordsIn bytes) ≡ wordCount (length bytes)
 unfolding wordsIn
@@ -48,3 +48,6 @@ words-layout bytes layout e =
     (sym (body-words (length bytes - 9) (layoutIn bytes) (omega (arith, ok .body)))
     ∙ sym (frame-passed bytes (ok .framed-whole))
     ∙ l .0)
+
+pub words-held : (bytes : List ℕ) → fileRefusal bytes ≡ 0 → imageRefusal (length (wordsIn bytes)) (layoutIn bytes) ≡ 0
+words-held bytes e = rw (length-words bytes) (words-layout bytes (layoutIn bytes) (sym (header-image bytes e)))

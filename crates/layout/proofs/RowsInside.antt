@@ -9,8 +9,8 @@ use Rattle.layout.proofs.Ladder.{geometry, image-layout, image-exact}
 
 module _ (layout : Layout) where
   module _ (first : 1 ≤ layout .s) (block : ℕ) where
-    pub row-below : (p : ℕ) → block < blocks layout → 1 ≤ p → p ≤ rowsOf layout → index layout block p < rowsOf layout * blocks layout
-    row-below p = in-range (rowsOf layout) (layout .s) first (layout .g) block p
+    pub row-in-range : (p : ℕ) → block < blocks layout → 1 ≤ p → p ≤ rowsOf layout → index layout block p < rowsOf layout * blocks layout
+    row-in-range p = in-range (rowsOf layout) (layout .s) first (layout .g) block p
 
     pub row-at-index : (k : ℕ) → k < rowsOf layout → rowAt layout (index layout block (suc k)) ≡ suc k
     row-at-index k h = ap suc (row-of (rowsOf layout) (layout .s) first block k h)
@@ -20,4 +20,4 @@ module _ (layout : Layout) where
     interleaved = geometry layout (image-layout layout len passed) .s-first
 
     pub row-inside : (block p : ℕ) → block < blocks layout → 1 ≤ p → p ≤ rowsOf layout → index layout block p < len
-    row-inside block p there l h = rw (image-exact layout len passed) (row-below interleaved block p there l h)
+    row-inside block p there l h = rw (image-exact layout len passed) (row-in-range interleaved block p there l h)

@@ -2,6 +2,7 @@ pub mod Short
 pub mod Counts
 pub mod VerdictLine
 pub mod Visited
+pub mod SameLines
 pub mod Reported
 pub mod Whole
 pub mod Input

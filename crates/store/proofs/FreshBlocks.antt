@@ -19,7 +19,7 @@ use Rattle.block.proofs.ValidBlocks.{valid-only, zero-valid}
 use Rattle.layout.specs.declared.Layout.{Layout}
 use Rattle.layout.specs.Layout.{shapeOf, rowsOf, wordsOf, blocks, index, rowAt}
 use Rattle.layout.specs.Refusal.{layoutRefusal}
-use Rattle.layout.proofs.RowsInside.{row-below, row-at-index}
+use Rattle.layout.proofs.RowsInside.{row-in-range, row-at-index}
 use Rattle.layout.proofs.Ladder.{geometry}
 use Rattle.stored.specs.Stored.{mask, complementedIn, complementedImage}
 use Rattle.stored.proofs.Forms.{mask-fits}
@@ -79,7 +79,8 @@ module _ (layout : Layout) where
     unfolding freshImage
     fresh-word j h =
         let first = geometry layout accepted .s-first in
-        getD-listOf (rowsOf layout * blocks layout) (freshWord layout) (index layout block (suc j)) (row-below layout first block (suc j) inside (omega arith) h)
+        getD-listOf (rowsOf layout * blocks layout) (freshWord layout) (index layout block (suc j))
+        (row-in-range layout first block (suc j) inside (omega arith) h)
         ∙ ap mask (row-at-index layout first block j h)
 
     -- as the code has it, it is zero

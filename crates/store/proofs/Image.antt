@@ -2,13 +2,17 @@
 use Prim.Native.Nat.{ℕ, suc, _^_, _≤_, _<_}
 use mathlib.Core.Path.{_≡_, refl, sym, ap, _∙_, fun-ext}
 use mathlib.Core.List.{List}
+use mathlib.Core.Bool.{Bool}
 use native.Mathlib.Omega.{arith}
 use native.Mathlib.Decide.{decLt}
 use lib.ListN.{length, getD}
 use lib.Pow.{pow-pos}
 use lib.Seq.{ext-getD}
-use Rattle.stored.specs.Stored.{complementedIn, complemented}
+use Rattle.stored.specs.Stored.{mask, complementedIn, complemented}
 use Rattle.stored.proofs.Forms.{length-complemented, row-complemented, rest-complemented, complemented-fits, complemented-twice}
+use Rattle.lane.specs.Bit.{bit, _⊕_}
+use Rattle.lane.proofs.Bits.{bit-xor}
+use Rattle.sums.specs.Words.{lane}
 use Rattle.block.specs.Block.{blank, Fitting}
 use Rattle.ground.proofs.Lists.{zeros-at}
 use Rattle.ground.proofs.Stores.{length-stores, stores-miss, stores-hit, stores-agree, stores-same, stores-all}
@@ -100,6 +104,16 @@ module _ (layout : Layout) (block : ℕ) where
   gathered-row image k h =
       row-complemented (storedRows layout block image) k (omega (arith, length-rows layout block image, rows-fit (shapeOf layout)))
       ∙ ap (complementedIn (suc k)) (rows-row layout block image k h)
+
+  -- a bit of a row goes by the bit that is stored
+  pub same-bit : (i : ℕ) (a b : List ℕ) (k : ℕ) → k < rowsOf layout
+      → bit i (getD a (index layout block (suc k)) 0) ≡ bit i (getD b (index layout block (suc k)) 0)
+      → lane i (gathered layout block a) (suc k) ≡ lane i (gathered layout block b) (suc k)
+  same-bit i a b k h e =
+      let m = bit i (mask (suc k)) in
+      let from : (image : List ℕ) → lane i (gathered layout block image) (suc k) ≡ bit i (getD image (index layout block (suc k)) 0) ⊕ m =
+      λ image. ap (bit i) (gathered-row image k h) ∙ bit-xor i (getD image (index layout block (suc k)) 0) (mask (suc k)) in
+      from a ∙ ap (λ (x : Bool). x ⊕ m) e ∙ sym (from b)
 
   pub gathered-words : (image : List ℕ) → Fitting image → Fitting (gathered layout block image)
   unfolding gathered

@@ -7,7 +7,7 @@ use native.Mathlib.Omega.{arith}
 use lib.ListN.{length, getD}
 use Rattle.lane.specs.Bit.{bit, _⊕_}
 use Rattle.lane.specs.Lane.{apart}
-use Rattle.lane.proofs.Bits.{bit-xor, ⊕-swap, ⊕-zero}
+use Rattle.lane.proofs.Bits.{⊕-swap, ⊕-zero}
 use Rattle.lane.proofs.Linear.{count-same}
 use Rattle.lane.proofs.Mended.{⊕-self}
 use Rattle.ground.proofs.Lists.{listOf-same}
@@ -18,6 +18,7 @@ use Rattle.shape.specs.Shape.{before, rows, words}
 use Rattle.stored.specs.Stored.{mask, complementedIn, complemented}
 use Rattle.stored.proofs.Forms.{word-twice, row-complemented, rest-complemented}
 use Rattle.sums.specs.Words.{row, lane}
+use Rattle.sums.proofs.StoredSums.{lane-masked}
 use Rattle.block.specs.Block.{SameRows, dataOf, dataInto, bitsChanged}
 use Rattle.block.proofs.Data.{dataRow, entry-row}
 
@@ -43,16 +44,12 @@ module _ (shape : Shape) (block : List ℕ) where
 -- ---- differences
 
 module _ (shape : Shape) (a b : List ℕ) (a-long : rows shape ≤ length a) (b-long : rows shape ≤ length b) where
-  lane-stored : (block : List ℕ) → rows shape ≤ length block → (i j : ℕ) → j < rows shape
-      → lane i (complemented block) (suc j) ≡ lane i block (suc j) ⊕ bit i (mask (suc j))
-  lane-stored block long i j h = ap (bit i) (row-complemented block j (omega arith)) ∙ bit-xor i (getD block j 0) (mask (suc j))
-
   pub apart-stored : (i : ℕ) → apart (before shape) (lane i (complemented a)) (lane i (complemented b)) ≡ apart (before shape) (lane i a) (lane i b)
   apart-stored i =
       count-same (rows shape) _ _
       (λ j h.
       let m = bit i (mask (suc j)) in
-      ap₂ _⊕_ (lane-stored a a-long i j h) (lane-stored b b-long i j h)
+      ap₂ _⊕_ (lane-masked shape a a-long i j h) (lane-masked shape b b-long i j h)
       ∙ ⊕-swap (lane i a (suc j)) m (lane i b (suc j)) m
       ∙ ap (λ (x : Bool). lane i a (suc j) ⊕ lane i b (suc j) ⊕ x) (⊕-self m)
       ∙ ⊕-zero (lane i a (suc j) ⊕ lane i b (suc j)))

@@ -35,8 +35,8 @@ pub word-fits : (p w : ℕ) → w < 2 ^ 32 → complementedIn p w < 2 ^ 32
 word-fits p w h = xor-lt 32 w (mask p) h (mask-fits p)
 
 -- the rows after 2 are stored as they are
-pub word-past : (p w : ℕ) → 2 < p → complementedIn p w ≡ w
-word-past p w h = rw (lt-leb p 2 h) (xor-zero-r w)
+pub word-kept : (p w : ℕ) → 2 < p → complementedIn p w ≡ w
+word-kept p w h = rw (lt-leb p 2 h) (xor-zero-r w)
 
 -- ---- words, whichever rows they are of
 
@@ -77,7 +77,7 @@ module _ (block : List ℕ) where
   -- the words after row 2 are as they are
   pub rest-complemented : (k : ℕ) → 2 ≤ k → getD (complemented block) k 0 ≡ getD block k 0
   rest-complemented k h =
-      ⊎-elim (λ l. row-complemented k l ∙ word-past (suc k) (getD block k 0) (omega arith))
+      ⊎-elim (λ l. row-complemented k l ∙ word-kept (suc k) (getD block k 0) (omega arith))
       (λ l. past-complemented k l ∙ sym (List·getD-eq-default block 0 {n = k} l))
       (split-below k (length block))
 

@@ -23,14 +23,14 @@ use Rattle.layout.specs.Layout.{shapeOf, rowsOf, groupWords, rowAt}
 use Rattle.layout.specs.Refusal.{imageRefusal}
 use Rattle.layout.proofs.Index.{row-in-group}
 use Rattle.layout.proofs.Ladder.{geometry, image-layout, image-exact}
-use Rattle.stored.proofs.Forms.{word-past}
+use Rattle.stored.proofs.Forms.{word-kept}
 use Rattle.stored.specs.Stored.{ones, mask, complementedIn, complemented, complementedImage, ComplementsImage}
 
 -- ---- a block
 
 -- the rows after the first two are as they are
 rest-same : (rest : List ℕ) → rest ≡ listOf (length rest) (λ k. complementedIn (suc (suc (suc k))) (getD rest k 0))
-rest-same rest = list-is (length rest) rest _ refl (λ k l. sym (word-past (suc (suc (suc k))) (getD rest k 0) (omega arith)))
+rest-same rest = list-is (length rest) rest _ refl (λ k l. sym (word-kept (suc (suc (suc k))) (getD rest k 0) (omega arith)))
 
 pub two-rows : (block : List ℕ) → set (set block 0 (bitXor (getD block 0 0) ones)) 1 (bitXor (getD block 1 0) ones) ≡ complemented block
 unfolding complemented listOf
@@ -66,29 +66,29 @@ module _ (image : List ℕ) (first group : ℕ) where
   word i = bitXor (getD image i 0) (maskIn first group i)
 
   -- the image with the words below a place done
-  abbrev pub upTo : ℕ → List ℕ
-  upTo n = stores image (λ i. i) word n
+  abbrev pub doneBelow : ℕ → List ℕ
+  doneBelow n = stores image (λ i. i) word n
 
-  not-yet : (n i : ℕ) → n ≤ i → getD (upTo n) i 0 ≡ getD image i 0
+  not-yet : (n i : ℕ) → n ≤ i → getD (doneBelow n) i 0 ≡ getD image i 0
   not-yet n i h = stores-miss image (λ i. i) word i n (λ j l e. omega arith)
 
   -- the first words of a group
-  run-more : (at : ℕ) → ((k : ℕ) → k < first → (at + k) % group ≡ k) → (n : ℕ) → n ≤ first → flippedRun (upTo at) at n ≡ upTo (at + n)
+  run-more : (at : ℕ) → ((k : ℕ) → k < first → (at + k) % group ≡ k) → (n : ℕ) → n ≤ first → flippedRun (doneBelow at) at n ≡ doneBelow (at + n)
   unfolding stores
-  run-more at in-group zero h = let e : at ≡ at + 0 = omega arith in ap upTo e
+  run-more at in-group zero h = let e : at ≡ at + 0 = omega arith in ap doneBelow e
   run-more at in-group (suc n) h =
       let e : at + suc n ≡ suc (at + n) = omega arith in
       rw (e, run-more at in-group n (omega arith), in-group n (omega arith), lt-ltb n first (omega arith), not-yet at (at + n) (omega arith))
 
   -- and the others, which stay
-  rest-more : (at : ℕ) → ((k : ℕ) → k < group → (at + k) % group ≡ k) → first ≤ group → upTo (at + first) ≡ upTo (at + group)
+  rest-more : (at : ℕ) → ((k : ℕ) → k < group → (at + k) % group ≡ k) → first ≤ group → doneBelow (at + first) ≡ doneBelow (at + group)
   rest-more at in-group fits =
       stores-more image (λ i. i) word (at + first) (at + group) (omega arith)
       (λ i l h.
       let k : ℕ = i - at in
       let e : at + k ≡ i = omega arith in
       let r : i % group ≡ k = ap (λ (n : ℕ). n % group) (sym e) ∙ in-group k (omega arith) in
-      rw (r, le-ltb k first (omega arith), xor-zero-r) (rw (← not-yet i i (omega arith)) (set-getD (upTo i) i 0)))
+      rw (r, le-ltb k first (omega arith), xor-zero-r) (rw (← not-yet i i (omega arith)) (set-getD (doneBelow i) i 0)))
 
   -- what is done after some groups
   pub record Going (after : List ℕ) (at : ℕ) : Type 0 where
@@ -99,7 +99,7 @@ module _ (image : List ℕ) (first group : ℕ) where
     pub passed : ℕ
     pub place : at ≡ passed * group
     pub within : passed ≤ groups
-    pub stored : after ≡ upTo at
+    pub stored : after ≡ doneBelow at
 
   module _ {after : List ℕ} {at : ℕ} (g : Going after at) (more : at < length image) where
     -- there is one more group
@@ -133,7 +133,7 @@ module _ (image : List ℕ) (first group : ℕ) where
   all-done {after} {at} g h =
       let e : at ≡ length image =
       let m = mul-le-mul-right group (g .within) in omega (arith, m, g .size, g .place) in
-      g .stored ∙ ap upTo e
+      g .stored ∙ ap doneBelow e
       ∙ list-is (length image) _ word (length-stores image (λ i. i) word (length image))
       (λ j l. stores-hit image (λ i. i) word j (length image) (λ k b q. q) l l)
 

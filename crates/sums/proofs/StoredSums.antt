@@ -53,10 +53,11 @@ bit-mask i h p = by (leb p 2)
 -- ---- a lane of the code's block, from that of the stored one
 
 module _ (shape : Shape) (block : List ℕ) (long : rows shape ≤ length block) where
+  pub lane-masked : (i j : ℕ) → j < rows shape → lane i (complemented block) (suc j) ≡ lane i block (suc j) ⊕ bit i (mask (suc j))
+  lane-masked i j l = ap (bit i) (row-complemented block j (omega arith)) ∙ bit-xor i (getD block j 0) (mask (suc j))
+
   pub lane-complemented : (i : ℕ) → i < 32 → (j : ℕ) → j < rows shape → lane i (complemented block) (suc j) ≡ diff (lane i block) pair (suc j)
-  lane-complemented i h j l =
-      ap (bit i) (row-complemented block j (omega arith)) ∙ bit-xor i (getD block j 0) (mask (suc j))
-      ∙ ap (λ (b : Bool). lane i block (suc j) ⊕ b) (bit-mask i h (suc j))
+  lane-complemented i h j l = lane-masked i j l ∙ ap (λ (b : Bool). lane i block (suc j) ⊕ b) (bit-mask i h (suc j))
 
   pub sum-complemented : (i : ℕ) → i < 32 → sum (before shape) (lane i (complemented block)) ≡ bitXor (sum (before shape) (lane i block)) 3
   sum-complemented i h =
