@@ -13,7 +13,7 @@ use borrow.Author.Tests.{ltb-true}
 use Rattle.lane.specs.Bit.{bit, pick}
 use Rattle.lane.specs.Decision.{Kind, even, beyond}
 use Rattle.shape.specs.declared.Shape.{Shape}
-use Rattle.block.specs.declared.Verdict.the-variants.{Mended, Lost}
+use Rattle.block.specs.declared.Verdict.the-variants.{Clean, Mended, Lost}
 use Rattle.shape.specs.Shape.{before, rows}
 use Rattle.shape.proofs.Sizes.{rows-fit}
 use Rattle.ground.specs.Totals.{total}
@@ -29,7 +29,7 @@ use Rattle.sums.proofs.RowSums.{sums-are}
 use Rattle.sums.proofs.Doubt.{word-lt, any-lt}
 use Rattle.block.proofs.Lanes.{ones-total}
 use Rattle.block.proofs.Blocks.{mended-kept}
-use Rattle.block.proofs.Judged.{lost-as-lt, above-lt, lost-decides, mended-decides, mends-lanes}
+use Rattle.block.proofs.Judged.{lost-as-lt, above-lt, lost-decides, mended-decides, clean-decides, mends-lanes}
 use Rattle.block.proofs.Told.{lost-some, mended-none}
 use Rattle.block.proofs.Decided.{decided, lanes-mended}
 use Rattle.block.proofs.Data.{data-lt}
@@ -119,3 +119,7 @@ module _ (shape : Shape) (block : List ℕ) (fit : fit? block ≡ true) (long : 
         sym says ∙ ap Mended (ones-total 32 parity parity-lt),
         mended-kept shape block (mended-none shape block _ says _ refl) ∙ sym (lanes-mended shape block are (mends-lanes shape sums above-small block)),
       )
+
+  -- a clean block
+  pub clean-by-words : bitOr (lost even) (lost beyond) ≡ 0 → parity ≡ 0 → verdictOf shape block ≡ Clean
+  clean-by-words z none = sym (decided shape block whole are (clean-decides shape sums parity-lt any-small z none))
