@@ -1,12 +1,13 @@
 -- Every index is that of one row of one block: which they are, from its digits. Assumes nothing.
 use Prim.Native.Nat.{ℕ, suc, _+_, _-_, _*_, _/_, _%_, _≤_, _<_}
 use mathlib.Core.Path.{_≡_, sym, ap, ap₂, _∙_}
-use native.Mathlib.Nat.{add-mul, mod-lt, div-add-mod'}
+use native.Mathlib.Nat.{add-mul, suc-mul, mul-comm, mul-right-comm, mul-le-mul-right, mod-lt, div-add-mod', div-lt-iff-lt-mul}
 use native.Mathlib.Omega.{arith}
-use lib.Arith.{digits-div, digits-mod}
+use lib.Arith.{digits-lt, digits-div, digits-mod}
 use Rattle.layout.specs.declared.Layout.{Layout}
-use Rattle.layout.specs.Layout.{rowsOf, index}
-use Rattle.layout.proofs.Index.{one-to-one}
+use Rattle.layout.specs.Layout.{rowsOf, blocks, index}
+use Rattle.layout.proofs.Index.{stride, one-to-one}
+use Rattle.demands.specs.Burst.{Within}
 
 module _ (layout : Layout) where
   -- the block that an index lies in, and how many rows stand there before it
@@ -40,3 +41,23 @@ module _ (layout : Layout) where
         one-to-one (rowsOf layout) (layout .s) first block (suc k) (blockAt at) (suc (rowsPast at)) (omega arith) h (omega arith) (row-below at)
         (e ∙ sym (index-at at)) in
         (same .0, omega (arith, same .1))
+
+    -- its block is below N where the index is below rows·N
+    pub block-inside : (at : ℕ) → at < rowsOf layout * blocks layout → blockAt at < blocks layout
+    block-inside at h =
+        let lines : at / layout .s < layout .g * rowsOf layout =
+        div-lt-iff-lt-mul first .1 (omega (arith, mul-right-comm (layout .g) (rowsOf layout) (layout .s), mul-comm (rowsOf layout) (blocks layout))) in
+        digits-lt (div-lt-iff-lt-mul (omega arith) .1 lines) (mod-lt at first)
+
+  -- the rows of a block lie s apart, so of s neighbouring words at most one is of it
+  pub row-once : (n start block j k : ℕ) → n ≤ layout .s → j < k → Within n start (index layout block (suc j)) → Within n start (index layout block (suc k)) → ⊥
+  row-once n start block j k few l a b =
+      omega (
+        arith,
+        a .0,
+        b .1,
+        stride (rowsOf layout) (layout .s) block j,
+        stride (rowsOf layout) (layout .s) block k,
+        suc-mul j (layout .s),
+        mul-le-mul-right {m = suc j} {n = k} (layout .s) l,
+      )

@@ -22,6 +22,9 @@ pub mod Spaced
 pub mod Written
 pub mod Reading
 pub mod Demand3
+pub mod Spoiled
+pub mod TooMany
+pub mod Bursts
 pub mod Tests
 pub mod Needed
 pub mod Shown

@@ -4,6 +4,7 @@ pub mod Demand2
 pub mod Examples
 pub mod Promised
 pub mod Demand3
+pub mod Burst
 pub mod Files
 pub mod RoundTrip
 pub mod StoredForm

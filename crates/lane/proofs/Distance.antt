@@ -91,8 +91,10 @@ between true false true = omega arith
 between true true false = omega arith
 between true true true = omega arith
 
+-- two lanes are apart in no more rows than both are from a third
+pub apart-between : (m : ℕ) (f g h : Lane) → apart m g h ≤ apart m f g + apart m f h
+apart-between m f g h = count-le (suc m) (diff g h) (diff f g) (diff f h) (λ j. between (f j) (g j) (h j))
+
 -- never a second valid lane within one row
 pub never-two : (m : ℕ) (f g h : Lane) → Valid m g → Valid m h → apart m f g ≤ 1 → apart m f h ≤ 1 → (j : ℕ) → j < suc m → g (suc j) ≡ h (suc j)
-never-two m f g h u v p q =
-    let c = count-le (suc m) (diff g h) (diff f g) (diff f h) (λ j. between (f j) (g j) (h j)) in
-    near-equal m g h u v (omega arith)
+never-two m f g h u v p q = let c = apart-between m f g h in near-equal m g h u v (omega arith)

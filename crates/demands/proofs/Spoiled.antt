@@ -1,0 +1,207 @@
+-- An image in which every block is at most one bit a lane off a valid one: what a burst leaves, and what each visit leaves of it. Assumes nothing.
+use Prim.Native.Nat.{ℕ, suc, _+_, _≤_, _<_}
+use mathlib.Core.Bool.{Bool, true, true≢false}
+use mathlib.Core.Path.{_≡_, refl, sym, ap, subst, _∙_}
+use mathlib.Core.List.{List, [], _∷_}
+use mathlib.Core.Logic.{_⊎_, inl, inr, ⊎-elim, by-cases}
+use native.Mathlib.Decide.{ℕ-discrete, decLt}
+use native.Mathlib.Omega.{arith}
+use lib.ListN.{length, getD}
+use lib.Seq.{ext-getD}
+use Rattle.ground.proofs.Choices.{refused-kept}
+use Rattle.lane.specs.Bit.{bit, _⊕_}
+use Rattle.lane.specs.Lane.{diff, apart}
+use Rattle.lane.proofs.Mended.{⊕-self}
+use Rattle.shape.specs.declared.Shape.{Shape}
+use Rattle.shape.specs.Shape.{before}
+use Rattle.shape.proofs.Sizes.{rows-fit}
+use Rattle.stored.specs.Stored.{complemented}
+use Rattle.stored.proofs.Forms.{complemented-twice}
+use Rattle.sums.specs.Words.{lane}
+use Rattle.block.specs.Block.{Fitting, Near, SameRows, dataOf}
+use Rattle.block.specs.Verdict.{Said, unsaid}
+use Rattle.layout.specs.declared.Layout.{Layout}
+use Rattle.layout.specs.Layout.{shapeOf, rowsOf, blocks, index}
+use Rattle.layout.specs.Refusal.{blockRefusal}
+use Rattle.layout.proofs.Ladder.{accepted, block-accepted, image-exact}
+use Rattle.layout.proofs.RowsInside.{interleaved}
+use Rattle.store.specs.declared.Answer.{Answer}
+use Rattle.store.specs.Answer.{answerNumber}
+use Rattle.store.specs.Image.{storedRows, gathered}
+use Rattle.store.specs.Read.{Reads}
+use Rattle.store.specs.Visit.{Visits, visitAnswer, visitAfter}
+use Rattle.store.proofs.After.{visit-untouched, visit-words}
+use Rattle.store.proofs.Image.{length-rows, rows-row, rows-words}
+use Rattle.store.proofs.Ladder.{data-accepted}
+use Rattle.store.proofs.Promises.{visits}
+use Rattle.demands.specs.Demand2.{Meant, Visiting, SaysLost}
+use Rattle.demands.specs.Burst.{AllValid, Within, Burst, VisitsInOrder, Comes, EveryBlock}
+use Rattle.demands.proofs.Demand2.{demand-2}
+use Rattle.demands.proofs.Flips.{count-once}
+use Rattle.demands.proofs.Index.{blockAt, rowsPast, row-below, index-at, block-inside, row-once}
+use Rattle.demands.proofs.SameBlocks.{same-apart, same-data}
+
+-- ---- a burst of at most s words
+
+module _ (layout : Layout) (n start : ℕ) (image spoiled : List ℕ) (few : n ≤ layout .s)
+    (elsewhere : (at : ℕ) → (Within n start at → ⊥) → getD spoiled at 0 ≡ getD image at 0)
+    (block i : ℕ) where
+  abbrev offs : ℕ → Bool
+  offs = diff (lane i (storedRows layout block spoiled)) (lane i (storedRows layout block image))
+
+  -- a row whose bit is changed is one of the words that were spoiled
+  off-within : (k : ℕ) → k < rowsOf layout → offs (suc k) ≡ true → Within n start (index layout block (suc k))
+  off-within k h t =
+      let at = index layout block (suc k) in
+      let out : (Within n start at → ⊥) → Within n start at =
+      λ ne.
+      let same : getD (storedRows layout block spoiled) k 0 ≡ getD (storedRows layout block image) k 0 =
+      rows-row layout block spoiled k h ∙ elsewhere at ne ∙ sym (rows-row layout block image k h) in
+      absurd (true≢false (sym t ∙ ap (λ (w : ℕ). bit i w ⊕ bit i (getD (storedRows layout block image) k 0)) same ∙ ⊕-self (bit i (getD (storedRows layout block image) k 0)))) in
+      by-cases (decLt at start) (λ l. out (λ w. omega (arith, w .0)))
+      (λ l.
+      by-cases (decLt at (start + n)) (λ m. (omega arith, m)) (λ m. out (λ w. omega (arith, w .1))))
+
+  -- so a block is changed in at most one row, and a lane of it in at most one bit
+  pub burst-near : apart (before (shapeOf layout)) (lane i (storedRows layout block spoiled)) (lane i (storedRows layout block image)) ≤ 1
+  burst-near =
+      count-once (rowsOf layout) offs
+      (λ j k l h t u. row-once layout n start block j k few l (off-within j (omega arith) t) (off-within k h u))
+
+-- ---- an image that is near the one that was
+
+module _ (layout : Layout) (image : List ℕ) (all : AllValid layout image) where
+  abbrev shape : Shape
+  shape = shapeOf layout
+
+  abbrev stored : ℕ → List ℕ → List ℕ
+  stored block words = storedRows layout block words
+
+  pub record Spoiled (now : List ℕ) : Type 0 where
+    pub size : length now ≡ length image
+    pub words : Fitting now
+    pub near : (block : ℕ) → block < blocks layout → Near shape (stored block now) (stored block image)
+
+  -- a block is as it was
+  abbrev pub AsWas : ℕ → List ℕ → Type 0
+  AsWas block now = SameRows shape (stored block now) (stored block image)
+
+  pub burst-spoils : (n start : ℕ) (spoiled : List ℕ) → n ≤ layout .s → Burst n start image spoiled → Spoiled spoiled
+  burst-spoils n start spoiled few burst =
+      record {
+        size = burst .size;
+        words = burst .words;
+        near = λ block h i l. burst-near layout n start image spoiled few (burst .elsewhere) block i;
+      }
+
+  -- where every block is as it was, the image is
+  pub all-as-was : (now : List ℕ) → length now ≡ length image → ((block : ℕ) → block < blocks layout → AsWas block now) → now ≡ image
+  all-as-was now size same =
+      ext-getD 0 now image size
+      (λ at h.
+      let first = interleaved layout (length image) (all .fits) in
+      let block = blockAt layout at in
+      let k = rowsPast layout at in
+      let low = row-below layout at in
+      let word : (words : List ℕ) → getD words at 0 ≡ getD (stored block words) k 0 =
+      λ words. ap (λ (j : ℕ). getD words j 0) (sym (index-at layout first at)) ∙ sym (rows-row layout block words k low) in
+      let inside = block-inside layout first at (omega (arith, image-exact layout (length image) (all .fits), size, h)) in
+      word now ∙ same block inside k low ∙ sym (word image))
+
+  -- ---- a visit
+
+  module _ (now : List ℕ) (ok : Spoiled now) (block : ℕ) where
+    pub meant : block < blocks layout → Meant shape (stored block now) (stored block image)
+    meant h =
+        record {
+          whole = rw (length-rows layout block image) (rows-fit shape);
+          words = rows-words layout block image (all .words);
+          valid = all .valid block h;
+          near = ok .near block h;
+        }
+
+    passed : block < blocks layout → blockRefusal (length now) layout block ≡ 0
+    passed h = rw (ok .size) (block-accepted layout (length image) block (all .fits) h)
+
+    module _ (answer : Answer) (after : List ℕ) (v : Visits now layout block answer after) where
+      pub visit-accepted : block < blocks layout → answerNumber answer ≡ 0
+      visit-accepted h = v .answers .number ∙ passed h
+
+      visiting : block < blocks layout → Visiting now layout block answer after
+      visiting h = demand-2 .visit now layout block answer after (ok .words) v (visit-accepted h)
+
+      pub visit-kept : SaysLost answer → ⊥
+      visit-kept says =
+          by-cases (ℕ-discrete (blockRefusal (length now) layout block) 0)
+          (λ e.
+          let inside = accepted layout (length now) block e .inside in
+          visiting inside .mends .lost .0 says (stored block image) (meant inside))
+          (λ ne.
+          let silent = v .answers .says ∙ refused-kept (blockRefusal (length now) layout block) _ unsaid ne in
+          omega (arith, says, ap (λ (said : Said). said .verdict) silent))
+
+      pub visit-restores : block < blocks layout → AsWas block after
+      visit-restores h j l = sym (visiting h .mends .only (stored block image) (meant h) j l)
+
+      -- the others are as they were found
+      other-rows : (other : ℕ) → (other ≡ block → ⊥) → stored other after ≡ stored other now
+      unfolding gathered
+      other-rows other ne =
+          let same = ap (gathered layout other) (v .leaves) ∙ visit-untouched now layout block .others other ne in
+          sym (complemented-twice (stored other after)) ∙ ap complemented same ∙ complemented-twice (stored other now)
+
+      pub visit-leaves : Spoiled after
+      visit-leaves =
+          record {
+            size = ap length (v .leaves) ∙ visit-untouched now layout block .size ∙ ok .size;
+            words = rw (v .leaves) (visit-words now layout block (ok .words));
+            near = λ other h.
+                by-cases (ℕ-discrete other block)
+                (λ e i l. rw e (omega (arith, same-apart shape (stored block after) (stored block image) (visit-restores (rw e at h)) i)))
+                (λ ne. rw (other-rows other ne) (ok .near other h));
+          }
+
+      pub visit-keeps : (other : ℕ) → other < blocks layout → AsWas other now → AsWas other after
+      visit-keeps other h same =
+          by-cases (ℕ-discrete other block) (λ e. rw e (visit-restores (rw e at h))) (λ ne. rw (other-rows other ne) same)
+
+    -- ---- a read
+
+    pub read-kept : (buffer : List ℕ) (answer : Answer) (kept filled : List ℕ) → Reads now layout block buffer answer kept filled → answerNumber answer ≡ 0
+        → (SaysLost answer → ⊥) × (filled ≡ dataOf shape (stored block image))
+    read-kept buffer answer kept filled r z =
+        let visited = visitAnswer now layout block in
+        let after = visitAfter now layout block in
+        let v = visits now layout block {answer = visited} {after = after} refl refl in
+        let reading = demand-2 .read now layout block buffer answer kept filled (ok .words) r z visited after v in
+        let passed = data-accepted (length now) layout block (length buffer) (sym (r .answers .number) ∙ z) .0 in
+        let inside = accepted layout (length now) block passed .inside in
+        let not-lost : SaysLost answer → ⊥ = λ says. visit-kept visited after v (subst SaysLost (reading .same) says) in (
+          not-lost,
+          reading .mended not-lost ∙ same-data shape (stored block after) (stored block image) (visit-restores visited after v inside),
+        )
+
+  -- ---- visits in order
+
+  pub order-leaves : (order now after : List ℕ) → Spoiled now → VisitsInOrder layout order now after
+      → Spoiled after × ((block : ℕ) → block < blocks layout → Comes block order ⊎ AsWas block now → AsWas block after)
+  unfolding VisitsInOrder Comes
+  order-leaves [] now after ok v = rw v (ok, λ block h. ⊎-elim (λ none. absurd none) (λ same. same))
+  order-leaves (first ∷ rest) now after ok v =
+      let answer = v .0 in
+      let between = v .1 in
+      let one = v .2 in
+      let later = order-leaves rest between after (visit-leaves now ok first answer between one) (v .3) in (
+        later .0,
+        λ block h.
+            ⊎-elim
+            (⊎-elim
+            (λ e. later .1 block h (inr (rw (← e) (visit-restores now ok first answer between one (rw e h)))))
+            (λ comes. later .1 block h (inl comes)))
+            (λ same. later .1 block h (inr (visit-keeps now ok first answer between one block h same))),
+      )
+
+  pub order-restores : (order now after : List ℕ) → Spoiled now → EveryBlock layout order → VisitsInOrder layout order now after → after ≡ image
+  order-restores order now after ok every v =
+      let left = order-leaves order now after ok v in
+      all-as-was after (left .0 .size) (λ block h. left .1 block h (inl (every block h)))

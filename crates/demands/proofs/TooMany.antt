@@ -1,0 +1,160 @@
+-- s + 1 neighbouring words hold two rows of one block: where the same bit of both is changed, no valid block is within one bit a lane. Assumes nothing.
+use Prim.Native.Nat.{ℕ, zero, suc, _+_, _≤_, _<_}
+use mathlib.Core.Bool.{Bool, true, false, not}
+use mathlib.Core.Path.{_≡_, refl, sym, ap, subst, _∙_}
+use mathlib.Core.List.{List}
+use mathlib.Core.Logic.{by-cases}
+use native.Mathlib.Decide.{ℕ-discrete}
+use native.Mathlib.Nat.{add-zero, suc-mul}
+use native.Mathlib.Omega.{arith}
+use lib.ListN.{length, getD, set}
+use lib.Seq.{getD-set-same, getD-set-other}
+use Rattle.lane.specs.Bit.{bit, _⊕_}
+use Rattle.lane.specs.Lane.{diff, apart}
+use Rattle.lane.proofs.Distance.{light, empty, ⊕-same, apart-between}
+use Rattle.lane.proofs.Linear.{valid-diff}
+use Rattle.shape.specs.Shape.{before, rows}
+use Rattle.shape.proofs.Sizes.{rows-fit}
+use Rattle.stored.specs.Stored.{complemented}
+use Rattle.sums.specs.Words.{lane}
+use Rattle.layout.specs.declared.Layout.{Layout}
+use Rattle.layout.specs.Layout.{shapeOf, rowsOf, blocks, index}
+use Rattle.layout.specs.Refusal.{blockRefusal}
+use Rattle.layout.proofs.Index.{stride}
+use Rattle.layout.proofs.Ladder.{block-accepted}
+use Rattle.layout.proofs.RowsInside.{interleaved, row-inside}
+use Rattle.store.specs.declared.Answer.{Answer}
+use Rattle.store.specs.Image.{storedRows}
+use Rattle.store.specs.Visit.{Visits}
+use Rattle.store.proofs.Image.{length-rows, rows-row}
+use Rattle.store.proofs.StoredBlocks.{apart-stored}
+use Rattle.demands.specs.Demand2.{Meant, SaysLost}
+use Rattle.demands.specs.Burst.{AllValid, Burst, Changed, sparked}
+use Rattle.demands.proofs.Demand2.{demand-2}
+use Rattle.demands.proofs.Flips.{length-flipped, flipped-words, this-bit, other-word, count-pair}
+use Rattle.demands.proofs.Spoiled.{burst-near}
+
+⊕-not : (a b : Bool) → a ≡ not b → a ⊕ b ≡ true
+⊕-not a b e = ap (λ (x : Bool). x ⊕ b) e ∙ go b
+  where
+    go : (x : Bool) → not x ⊕ x ≡ true
+    go false = refl
+    go true = refl
+
+-- rows k + 1 and k + 2 of a block, the second s words after the first
+module _ (layout : Layout) (image : List ℕ) (all : AllValid layout image) (block k i : ℕ) (inside : block < blocks layout) (high : suc k < rowsOf layout)
+    (low : i < 32) where
+  abbrev start : ℕ
+  start = index layout block (suc k)
+
+  next-row : index layout block (suc (suc k)) ≡ start + layout .s
+  next-row = omega (arith, stride (rowsOf layout) (layout .s) block k, stride (rowsOf layout) (layout .s) block (suc k), suc-mul k (layout .s))
+
+  first-inside : start < length image
+  first-inside = row-inside layout (length image) (all .fits) block (suc k) inside (omega arith) (omega arith)
+
+  last-inside : start + layout .s < length image
+  last-inside = rw (← next-row) (row-inside layout (length image) (all .fits) block (suc (suc k)) inside (omega arith) high)
+
+  module _ (spoiled : List ℕ) (burst : Burst (suc (layout .s)) start image spoiled)
+      (first : Changed i start image spoiled)
+      (last : Changed i (start + layout .s) image spoiled) where
+    abbrev m : ℕ
+    m = before (shapeOf layout)
+
+    abbrev now : List ℕ
+    now = storedRows layout block spoiled
+
+    abbrev was : List ℕ
+    was = storedRows layout block image
+
+    -- the spoiled image with the first word as it was: s words of it are spoiled
+    abbrev mid : List ℕ
+    mid = set spoiled start (getD image start 0)
+
+    mid-word : (at : ℕ) → (at ≡ start → ⊥) → getD mid at 0 ≡ getD spoiled at 0
+    mid-word at ne = getD-set-other spoiled start at (getD image start 0) 0 ne
+
+    mid-first : getD mid start 0 ≡ getD image start 0
+    mid-first = getD-set-same spoiled start (getD image start 0) 0 (rw (burst .size) first-inside)
+
+    -- so a lane is changed in at most two bits
+    two-off : apart m (lane i now) (lane i was) ≤ 2
+    two-off =
+        let s-first = interleaved layout (length image) (all .fits) in
+        let one = burst-near layout 1 start spoiled mid s-first (λ at ne. mid-word at (λ e. ne (omega arith, omega arith))) block i in
+        let others =
+        burst-near layout (layout .s) (suc start) image mid (omega arith)
+        (λ at ne.
+        by-cases (ℕ-discrete at start) (λ e. rw e mid-first)
+        (λ nq. mid-word at nq ∙ burst .elsewhere at (λ w. ne (omega (arith, w .0, nq), omega (arith, w .1)))))
+        block
+        i in
+        omega (arith, one, others, apart-between m (lane i (storedRows layout block mid)) (lane i now) (lane i was))
+
+    -- and in two
+    changed : (j : ℕ) → j < rowsOf layout → Changed i (index layout block (suc j)) image spoiled → lane i now (suc j) ≡ not (lane i was (suc j))
+    changed j h c = ap (bit i) (rows-row layout block spoiled j h) ∙ c ∙ ap (λ (w : ℕ). not (bit i w)) (sym (rows-row layout block image j h))
+
+    -- a valid block within one bit a lane would be the one that was, which it is not
+    none-meant : (other : List ℕ) → Meant (shapeOf layout) now other → ⊥
+    none-meant other meant =
+        let near = meant .near i low in
+        let tall : rows (shapeOf layout) ≤ length was = rw (length-rows layout block image) (rows-fit (shapeOf layout)) in
+        let stored = apart-stored (shapeOf layout) was other tall (meant .whole) i in
+        let same =
+        light m (diff (lane i (complemented was)) (lane i (complemented other))) (valid-diff (all .valid block inside i low) (meant .valid i low))
+        (omega (arith, two-off, near, stored, apart-between m (lane i now) (lane i was) (lane i other))) in
+        let as-was : (j : ℕ) → j < rowsOf layout → lane i was (suc j) ≡ lane i other (suc j) =
+        λ j h. ⊕-same _ _ (empty (rowsOf layout) (diff (lane i was) (lane i other)) (sym stored ∙ same) j h) in
+        let off : (j : ℕ) → j < rowsOf layout → Changed i (index layout block (suc j)) image spoiled → diff (lane i now) (lane i other) (suc j) ≡ true =
+        λ j h c. ⊕-not _ _ (changed j h c ∙ ap not (as-was j h)) in
+        count-pair (rowsOf layout) (diff (lane i now) (lane i other)) k (suc k) (omega arith) high
+        (off k (omega arith) first)
+        (off (suc k) high (rw next-row last))
+        near
+
+    pub pair-lost : (answer : Answer) (after : List ℕ) → Visits spoiled layout block answer after → SaysLost answer × (after ≡ spoiled)
+    pair-lost answer after v =
+        let passed : blockRefusal (length spoiled) layout block ≡ 0 = rw (burst .size) (block-accepted layout (length image) block (all .fits) inside) in
+        let visiting = demand-2 .visit spoiled layout block answer after (burst .words) v (v .answers .number ∙ passed) in
+        let says = visiting .mends .lost .1 none-meant in (says, visiting .lost-unaltered says)
+
+  -- ---- one bit flipped in each of n words
+
+  pub sparked-burst : (n : ℕ) → Burst n start image (sparked i n start image)
+  unfolding sparked
+  sparked-burst zero = record { size = refl; words = all .words; elsewhere = λ at ne. refl }
+  sparked-burst (suc n) =
+      let x = sparked i n start image in
+      let b = sparked-burst n in
+      record {
+        size = length-flipped (start + n) i x ∙ b .size;
+        words = flipped-words (start + n) i x (b .words);
+        elsewhere = λ at ne.
+            other-word (start + n) i x at (λ e. ne (omega arith, omega arith)) ∙ b .elsewhere at (λ w. ne (w .0, omega (arith, w .1)));
+      }
+
+  sparked-changed : (n j : ℕ) → j < n → start + j < length image → Changed i (start + j) image (sparked i n start image)
+  unfolding sparked
+  sparked-changed zero j h l = absurd (omega arith)
+  sparked-changed (suc n) j h l =
+      let x = sparked i n start image in
+      let b = sparked-burst n in
+      by-cases (ℕ-discrete j n)
+      (λ e.
+      rw e
+      (this-bit (start + n) i x low (rw (b .size, ← e) l)
+      ∙ ap (λ (w : ℕ). not (bit i w)) (b .elsewhere (start + n) (λ w. omega (arith, w .1)))))
+      (λ ne. ap (bit i) (other-word (start + n) i x (start + j) (λ e. ne (omega arith))) ∙ sparked-changed n j (omega arith) l)
+
+  pub spark-lost : (answer : Answer) (after : List ℕ) → Visits (sparked i (suc (layout .s)) start image) layout block answer after → SaysLost answer
+  spark-lost answer after v =
+      let s = layout .s in
+      let first = sparked-changed (suc s) 0 (omega arith) (omega (arith, first-inside)) in
+      pair-lost (sparked i (suc s) start image) (sparked-burst (suc s))
+      (subst (λ (at : ℕ). Changed i at image (sparked i (suc s) start image)) (add-zero start) first)
+      (sparked-changed (suc s) s (omega arith) last-inside)
+      answer
+      after
+      v .0

@@ -1,0 +1,120 @@
+-- A burst: a spark spoils neighbouring words. Where every block is valid, spoil any bits in at most s neighbouring words, across a group border too,
+-- and visit every block, in any order: the image is then what it was, and no visit says lost. s + 1 words can lose a block. Assumes nothing.
+use Prim.Native.Nat.{ℕ, zero, suc, _+_, _≤_, _<_}
+use mathlib.Core.Bool.{not}
+use mathlib.Core.Path.{_≡_}
+use mathlib.Core.List.{List, [], _∷_, _++_}
+use mathlib.Core.Logic.{_⊎_}
+use lib.ListN.{length, getD, replicate}
+use Rattle.lane.specs.Bit.{bit}
+use Rattle.block.specs.Block.{Fitting, dataOf}
+use Rattle.layout.specs.declared.Layout.{Layout}
+use Rattle.layout.specs.Layout.{shapeOf, rowsOf, wordsOf, blocks, index}
+use Rattle.layout.specs.Refusal.{imageRefusal}
+use Rattle.store.specs.declared.Answer.{Answer}
+use Rattle.store.specs.Answer.{answerNumber}
+use Rattle.store.specs.Image.{storedRows}
+use Rattle.store.specs.Read.{Reads}
+use Rattle.store.specs.Visit.{Visits}
+use Rattle.demands.specs.Demand2.{ValidStored, SaysLost}
+use Rattle.demands.specs.Steps.{Step, read, fresh, flipped, lastWritten}
+use Rattle.demands.specs.Demand3.{store, NotFormatted, OneLayout, WordsWritten, FlipsSpaced}
+
+-- ---- what struck
+
+-- an image that its layout fits, of 32-bit words, in which every block is valid as it is stored
+pub record AllValid (layout : Layout) (image : List ℕ) : Type 0 where
+  pub fits : imageRefusal (length image) layout ≡ 0
+  pub words : Fitting image
+  pub valid : (block : ℕ) → block < blocks layout → ValidStored (shapeOf layout) (storedRows layout block image)
+
+-- an index is one of n neighbouring words
+abbrev pub Within : (n start at : ℕ) → Type 0
+Within n start at = (start ≤ at) × (at < start + n)
+
+-- any bits of n neighbouring words are changed, and no other word is
+pub record Burst (n start : ℕ) (image spoiled : List ℕ) : Type 0 where
+  pub size : length spoiled ≡ length image
+  pub words : Fitting spoiled
+  pub elsewhere : (at : ℕ) → (Within n start at → ⊥) → getD spoiled at 0 ≡ getD image at 0
+
+-- every block was valid, and at most s neighbouring words are spoiled
+pub record Struck (layout : Layout) (image spoiled : List ℕ) : Type 0 where
+  pub valid : AllValid layout image
+  pub n : ℕ
+  pub start : ℕ
+  pub few : n ≤ layout .s
+  pub burst : Burst n start image spoiled
+
+-- ---- what is done then
+
+-- the blocks of a list are visited one after the other, each as the promise of visit allows
+unfoldable pub VisitsInOrder : Layout → List ℕ → (image after : List ℕ) → Type 0
+VisitsInOrder layout [] image after = after ≡ image
+VisitsInOrder layout (block ∷ rest) image after =
+    (answer : Answer) × (between : List ℕ) × Visits image layout block answer between × VisitsInOrder layout rest between after
+
+-- a block comes in a list
+unfoldable pub Comes : ℕ → List ℕ → Type 0
+Comes block [] = ⊥
+Comes block (first ∷ rest) = (first ≡ block) ⊎ Comes block rest
+
+-- every block does, once or more
+abbrev pub EveryBlock : Layout → List ℕ → Type 0
+EveryBlock layout order = (block : ℕ) → block < blocks layout → Comes block order
+
+-- ---- one word more
+
+-- bit i of a word is changed
+abbrev pub Changed : (i at : ℕ) → (image spoiled : List ℕ) → Type 0
+Changed i at image spoiled = bit i (getD spoiled at 0) ≡ not (bit i (getD image at 0))
+
+-- bit i of each of n neighbouring words is flipped
+unfoldable pub sparked : (i n start : ℕ) → List ℕ → List ℕ
+sparked i zero start image = image
+sparked i (suc n) start image = flipped (start + n) i (sparked i n start image)
+
+pub record Bursts : Type 0 where
+  -- every block is visited, in any order: the image is then what it was
+  pub restored : (layout : Layout) (image spoiled : List ℕ) → Struck layout image spoiled
+      → (order after : List ℕ) → EveryBlock layout order → VisitsInOrder layout order spoiled after
+      → after ≡ image
+  -- no visit says lost, neither on the way nor after, whatever blocks were visited before it; and every visit of a block is accepted
+  pub none-lost : (layout : Layout) (image spoiled : List ℕ) → Struck layout image spoiled
+      → (done between : List ℕ) → VisitsInOrder layout done spoiled between
+      → (block : ℕ) (answer : Answer) (after : List ℕ) → Visits between layout block answer after
+      → SaysLost answer → ⊥
+  pub accepted : (layout : Layout) (image spoiled : List ℕ) → Struck layout image spoiled
+      → (done between : List ℕ) → VisitsInOrder layout done spoiled between
+      → (block : ℕ) (answer : Answer) (after : List ℕ) → Visits between layout block answer after
+      → block < blocks layout
+      → answerNumber answer ≡ 0
+  -- a read gives the data that the block held, straight after the burst, where nothing is done yet, and on the way
+  pub reads : (layout : Layout) (image spoiled : List ℕ) → Struck layout image spoiled
+      → (done between : List ℕ) → VisitsInOrder layout done spoiled between
+      → (block : ℕ) (buffer : List ℕ) (answer : Answer) (kept filled : List ℕ) → Reads between layout block buffer answer kept filled
+      → answerNumber answer ≡ 0
+      → (SaysLost answer → ⊥) × (filled ≡ dataOf (shapeOf layout) (storedRows layout block image))
+  -- so a read that demand 3 speaks of gives the data last written, or zeros, though a burst came straight before it
+  pub reads-right : (image : List ℕ) (layout : Layout) (steps : List Step) → OneLayout image layout steps → WordsWritten steps
+      → FlipsSpaced image layout steps
+      → NotFormatted image layout steps
+      → (before rest : List Step) (named : Layout) (block : ℕ) (buffer : List ℕ) → steps ≡ before ++ read named block buffer ∷ rest
+      → (spoiled : List ℕ) → Struck layout (store image layout before .image) spoiled
+      → (answer : Answer) (kept left : List ℕ) → Reads spoiled named block buffer answer kept left
+      → answerNumber answer ≡ 0
+      → (SaysLost answer → ⊥) × (left ≡ lastWritten block (replicate (wordsOf layout) 0) before (fresh image layout))
+  -- s + 1 neighbouring words are too many: the first and the last are rows of one block, and where the same bit of both is changed it is lost
+  pub too-many : (layout : Layout) (image spoiled : List ℕ) → AllValid layout image
+      → (block p i : ℕ) → block < blocks layout → 1 ≤ p → p < rowsOf layout → i < 32
+      → Burst (suc (layout .s)) (index layout block p) image spoiled
+      → Changed i (index layout block p) image spoiled
+      → Changed i (index layout block p + layout .s) image spoiled
+      → (answer : Answer) (after : List ℕ) → Visits spoiled layout block answer after
+      → SaysLost answer × (after ≡ spoiled)
+  -- one bit flipped in each of them is such a burst: for both shapes, every s and every such start
+  pub tight : (layout : Layout) (image : List ℕ) → AllValid layout image
+      → (block p i : ℕ) → block < blocks layout → 1 ≤ p → p < rowsOf layout → i < 32
+      → Burst (suc (layout .s)) (index layout block p) image (sparked i (suc (layout .s)) (index layout block p) image)
+      × ((answer : Answer) (after : List ℕ) → Visits (sparked i (suc (layout .s)) (index layout block p) image) layout block answer after
+      → SaysLost answer)
