@@ -19,6 +19,7 @@ use Rattle.demands.specs.Burst.{AllValid, Burst, Struck, VisitsInOrder, 
 use Rattle.demands.proofs.Demand3.{demand-3}
 use Rattle.demands.proofs.Numbers.{read-number}
 use Rattle.demands.proofs.Spoiled.{Spoiled, burst-spoils, order-leaves, order-restores, visit-kept, visit-accepted, read-kept}
+use Rattle.demands.proofs.Rounds.{round, turns-kept}
 use Rattle.demands.proofs.TooMany.{pair-lost, sparked-burst, spark-lost}
 
 module _ (layout : Layout) (image spoiled : List ℕ) (struck : Struck layout image spoiled) where
@@ -96,6 +97,8 @@ bursts =
       reads = λ layout image spoiled struck done between v block.
           read-kept layout image (struck .valid) between (on-the-way layout image spoiled struck done between v) block;
       reads-right = read-right;
+      round = round;
+      turns-none-lost = turns-kept;
       too-many = too-many;
       tight = tight;
     }

@@ -24,6 +24,7 @@ pub mod Reading
 pub mod Demand3
 pub mod Spoiled
 pub mod TooMany
+pub mod Rounds
 pub mod Bursts
 pub mod Tests
 pub mod Needed

@@ -37,7 +37,8 @@ use Rattle.store.proofs.Promises.{visits}
 use Rattle.demands.specs.Demand2.{Meant, Visiting, SaysLost}
 use Rattle.demands.specs.Burst.{AllValid, Within, Burst, VisitsInOrder, Comes, EveryBlock}
 use Rattle.demands.proofs.Demand2.{demand-2}
-use Rattle.demands.proofs.Flips.{count-once}
+use Rattle.demands.specs.Steps.{flipped}
+use Rattle.demands.proofs.Flips.{length-flipped, flipped-words, other-word, count-once}
 use Rattle.demands.proofs.Index.{blockAt, rowsPast, row-below, index-at, block-inside, row-once}
 use Rattle.demands.proofs.SameBlocks.{same-apart, same-data}
 
@@ -67,6 +68,16 @@ module _ (layout : Layout) (n start : ℕ) (image spoiled : List ℕ) (few : n �
   burst-near =
       count-once (rowsOf layout) offs
       (λ j k l h t u. row-once layout n start block j k few l (off-within j (omega arith) t) (off-within k h u))
+
+-- one more flip in a burst's words is of the burst
+pub burst-flip : (n start : ℕ) (image spoiled : List ℕ) (at nth : ℕ) → Within n start at → Burst n start image spoiled
+    → Burst n start image (flipped at nth spoiled)
+burst-flip n start image spoiled at nth within burst =
+    record {
+      size = length-flipped at nth spoiled ∙ burst .size;
+      words = flipped-words at nth spoiled (burst .words);
+      elsewhere = λ i ne. other-word at nth spoiled i (λ e. ne (rw e within)) ∙ burst .elsewhere i ne;
+    }
 
 -- ---- an image that is near the one that was
 

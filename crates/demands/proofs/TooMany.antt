@@ -31,8 +31,8 @@ use Rattle.store.proofs.StoredBlocks.{apart-stored}
 use Rattle.demands.specs.Demand2.{Meant, SaysLost}
 use Rattle.demands.specs.Burst.{AllValid, Burst, Changed, sparked}
 use Rattle.demands.proofs.Demand2.{demand-2}
-use Rattle.demands.proofs.Flips.{length-flipped, flipped-words, this-bit, other-word, count-pair}
-use Rattle.demands.proofs.Spoiled.{burst-near}
+use Rattle.demands.proofs.Flips.{this-bit, other-word, count-pair}
+use Rattle.demands.proofs.Spoiled.{burst-near, burst-flip}
 
 ⊕-not : (a b : Bool) → a ≡ not b → a ⊕ b ≡ true
 ⊕-not a b e = ap (λ (x : Bool). x ⊕ b) e ∙ go b
@@ -128,12 +128,8 @@ module _ (layout : Layout) (image : List ℕ) (all : AllValid layout image) (blo
   sparked-burst (suc n) =
       let x = sparked i n start image in
       let b = sparked-burst n in
-      record {
-        size = length-flipped (start + n) i x ∙ b .size;
-        words = flipped-words (start + n) i x (b .words);
-        elsewhere = λ at ne.
-            other-word (start + n) i x at (λ e. ne (omega arith, omega arith)) ∙ b .elsewhere at (λ w. ne (w .0, omega (arith, w .1)));
-      }
+      burst-flip (suc n) start image x (start + n) i (omega arith, omega arith)
+      (record { size = b .size; words = b .words; elsewhere = λ at ne. b .elsewhere at (λ w. ne (w .0, omega (arith, w .1))) })
 
   sparked-changed : (n j : ℕ) → j < n → start + j < length image → Changed i (start + j) image (sparked i n start image)
   unfolding sparked

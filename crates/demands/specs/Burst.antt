@@ -16,8 +16,11 @@ use Rattle.store.specs.Answer.{answerNumber}
 use Rattle.store.specs.Image.{storedRows}
 use Rattle.store.specs.Read.{Reads}
 use Rattle.store.specs.Visit.{Visits}
+use Rattle.patrol.specs.declared.Turned.{Turned}
+use Rattle.patrol.specs.Numbers.{reportFirst, reportSecond}
+use Rattle.patrol.specs.Turn.{Turns}
 use Rattle.demands.specs.Demand2.{ValidStored, SaysLost}
-use Rattle.demands.specs.Steps.{Step, read, fresh, flipped, lastWritten}
+use Rattle.demands.specs.Steps.{Step, format, write, read, visit, ask, turn, flip, fresh, flipped, turns, lastWritten}
 use Rattle.demands.specs.Demand3.{store, NotFormatted, OneLayout, WordsWritten, FlipsSpaced}
 
 -- ---- what struck
@@ -74,6 +77,36 @@ unfoldable pub sparked : (i n start : ℕ) → List ℕ → List ℕ
 sparked i zero start image = image
 sparked i (suc n) start image = flipped (start + n) i (sparked i n start image)
 
+-- ---- the steps of a store
+
+-- each step of a list is such
+abbrev pub Each : (Step → Type 0) → List Step → Type 0
+Each Such steps = (first rest : List Step) (step : Step) → steps ≡ first ++ step ∷ rest → Such step
+
+-- flips in at most s neighbouring words
+abbrev pub FlipWithin : (n start : ℕ) → Step → Type 0
+FlipWithin n start step = (at bit : ℕ) × (step ≡ flip at bit) × Within n start at
+
+abbrev pub Spark : Layout → List Step → Type 0
+Spark layout steps = (n start : ℕ) × (n ≤ layout .s) × Each (FlipWithin n start) steps
+
+-- a call that stores no data: a read, an ask, a turn, a visit with this layout
+abbrev pub Quiet : Layout → Step → Type 0
+Quiet layout (format named) = ⊥
+Quiet layout (write named block list) = ⊥
+Quiet layout (read named block buffer) = Unit {0}
+Quiet layout (visit named block) = named ≡ layout
+Quiet layout (ask block) = Unit {0}
+Quiet layout turn = Unit {0}
+Quiet layout (flip at bit) = ⊥
+
+-- every block of a store was valid, a spark has spoiled it, and quiet calls came since
+pub record Sparked (image : List ℕ) (layout : Layout) (before spark since : List Step) : Type 0 where
+  pub kept : NotFormatted image layout (before ++ spark ++ since)
+  pub valid : AllValid layout (store image layout before .image)
+  pub struck : Spark layout spark
+  pub quiet : Each (Quiet layout) since
+
 pub record Bursts : Type 0 where
   -- every block is visited, in any order: the image is then what it was
   pub restored : (layout : Layout) (image spoiled : List ℕ) → Struck layout image spoiled
@@ -104,6 +137,15 @@ pub record Bursts : Type 0 where
       → (answer : Answer) (kept left : List ℕ) → Reads spoiled named block buffer answer kept left
       → answerNumber answer ≡ 0
       → (SaysLost answer → ⊥) × (left ≡ lastWritten block (replicate (wordsOf layout) 0) before (fresh image layout))
+  -- the patrol is such an order: N turns after a spark, whatever other calls but writes come between, the image is what it was
+  pub round : (image : List ℕ) (layout : Layout) (before spark since : List Step) → Sparked image layout before spark since
+      → blocks layout ≤ turns since
+      → store image layout (before ++ spark ++ since) .image ≡ store image layout before .image
+  -- and no turn, on the way or after, reports a block lost
+  pub turns-none-lost : (image : List ℕ) (layout : Layout) (before spark since : List Step) → Sparked image layout before spark since
+      → (answer : Turned) (left : List ℕ)
+      → Turns (store image layout (before ++ spark ++ since) .patrol) (store image layout (before ++ spark ++ since) .image) answer left
+      → (reportFirst (answer .report) .said .verdict ≡ 3 → ⊥) × (reportSecond (answer .report) .said .verdict ≡ 3 → ⊥)
   -- s + 1 neighbouring words are too many: the first and the last are rows of one block, and where the same bit of both is changed it is lost
   pub too-many : (layout : Layout) (image spoiled : List ℕ) → AllValid layout image
       → (block p i : ℕ) → block < blocks layout → 1 ≤ p → p < rowsOf layout → i < 32
