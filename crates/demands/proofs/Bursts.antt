@@ -1,21 +1,16 @@
 -- A burst of at most s neighbouring words is mended whole, and one of s + 1 words can lose a block. Assumes nothing.
-use Prim.Native.Nat.{ℕ, zero, suc, _+_, _≤_, _<_}
+use Prim.Native.Nat.{ℕ, suc, _+_, _-_, _*_, _/_, _≤_}
 use mathlib.Core.Path.{_≡_, refl, sym, ap, subst, _∙_}
-use mathlib.Core.List.{List, _∷_, _++_}
+use mathlib.Core.List.{List}
 use native.Mathlib.Omega.{arith}
-use lib.ListN.{length, replicate}
+use lib.ListN.{length}
 use Rattle.layout.specs.declared.Layout.{Layout}
-use Rattle.layout.specs.Layout.{rowsOf, wordsOf, blocks, index}
-use Rattle.store.specs.declared.Answer.{Answer}
-use Rattle.store.specs.Answer.{answerNumber}
 use Rattle.store.specs.Read.{Reads, readAnswer, readBuffer}
 use Rattle.store.specs.Refusal.{dataRefusal}
-use Rattle.store.specs.Visit.{Visits}
 use Rattle.store.proofs.Promises.{reads}
-use Rattle.demands.specs.Demand2.{SaysLost}
-use Rattle.demands.specs.Steps.{Step, read, fresh, lastWritten}
-use Rattle.demands.specs.Demand3.{store, NotFormatted, OneLayout, WordsWritten, FlipsSpaced}
-use Rattle.demands.specs.Burst.{AllValid, Burst, Struck, VisitsInOrder, Changed, sparked, Bursts}
+use Rattle.demands.specs.Steps.{read}
+use Rattle.demands.specs.Demand3.{store}
+use Rattle.demands.specs.Burst.{AllValid, Within, Struck, VisitsInOrder, ReadsStruck, Bursts}
 use Rattle.demands.proofs.Demand3.{demand-3}
 use Rattle.demands.proofs.Numbers.{read-number}
 use Rattle.demands.proofs.Spoiled.{Spoiled, burst-spoils, order-leaves, order-restores, visit-kept, visit-accepted, read-kept}
@@ -24,7 +19,7 @@ use Rattle.demands.proofs.TooMany.{pair-lost, sparked-burst, spark-lost
 
 module _ (layout : Layout) (image spoiled : List ℕ) (struck : Struck layout image spoiled) where
   struck-spoils : Spoiled layout image (struck .valid) spoiled
-  struck-spoils = burst-spoils layout image (struck .valid) (struck .n) (struck .start) spoiled (struck .few) (struck .burst)
+  struck-spoils = burst-spoils layout image (struck .valid) (struck .n) (struck .start) spoiled (omega (arith, struck .few)) (struck .burst)
 
   on-the-way : (done between : List ℕ) → VisitsInOrder layout done spoiled between → Spoiled layout image (struck .valid) between
   on-the-way done between v = order-leaves layout image (struck .valid) done spoiled between struck-spoils v .0
@@ -36,13 +31,7 @@ none-struck : (layout : Layout) (image : List ℕ) (all : AllValid layout image)
 none-struck layout image all =
     burst-spoils layout image all 0 0 image (omega arith) (record { size = refl; words = all .words; elsewhere = λ at ne. refl })
 
-read-right : (image : List ℕ) (layout : Layout) (steps : List Step) → OneLayout image layout steps → WordsWritten steps → FlipsSpaced image layout steps
-    → NotFormatted image layout steps
-    → (before rest : List Step) (named : Layout) (block : ℕ) (buffer : List ℕ) → steps ≡ before ++ read named block buffer ∷ rest
-    → (spoiled : List ℕ) → Struck layout (store image layout before .image) spoiled
-    → (answer : Answer) (kept left : List ℕ) → Reads spoiled named block buffer answer kept left
-    → answerNumber answer ≡ 0
-    → (SaysLost answer → ⊥) × (left ≡ lastWritten block (replicate (wordsOf layout) 0) before (fresh image layout))
+read-right : (image : List ℕ) (layout : Layout) → ReadsStruck image layout
 read-right image layout steps one words spaced none before rest named block buffer e spoiled struck answer kept left p z =
     let now = store image layout before .image in
     let passed : dataRefusal (length now) named block (length buffer) ≡ 0 =
@@ -62,28 +51,16 @@ read-right image layout steps one words spaced none before rest named block buff
     (subst (λ (l : Layout). Reads spoiled l block buffer answer kept left) ours p)
     z in (got .0, got .1 ∙ sym (quiet .1) ∙ right .1)
 
--- ---- one word more
+-- ---- bytes
 
-too-many : (layout : Layout) (image spoiled : List ℕ) → AllValid layout image
-    → (block p i : ℕ) → block < blocks layout → 1 ≤ p → p < rowsOf layout → i < 32
-    → Burst (suc (layout .s)) (index layout block p) image spoiled
-    → Changed i (index layout block p) image spoiled
-    → Changed i (index layout block p + layout .s) image spoiled
-    → (answer : Answer) (after : List ℕ) → Visits spoiled layout block answer after
-    → SaysLost answer × (after ≡ spoiled)
-too-many layout image spoiled all block zero i inside l h low burst = absurd (omega arith)
-too-many layout image spoiled all block (suc k) i inside l h low burst = pair-lost layout image all block k i inside h low spoiled burst
+bytes : (s start n at : ℕ) → n + 3 ≤ 4 * s → Within n start at → Within s (start / 4) (at / 4)
+bytes s start n at few w = (omega (arith, w .0), omega (arith, w .1))
 
-tight : (layout : Layout) (image : List ℕ) → AllValid layout image
-    → (block p i : ℕ) → block < blocks layout → 1 ≤ p → p < rowsOf layout → i < 32
-    → Burst (suc (layout .s)) (index layout block p) image (sparked i (suc (layout .s)) (index layout block p) image)
-    × ((answer : Answer) (after : List ℕ) → Visits (sparked i (suc (layout .s)) (index layout block p) image) layout block answer after
-    → SaysLost answer)
-tight layout image all block zero i inside l h low = absurd (omega arith)
-tight layout image all block (suc k) i inside l h low = (
-  sparked-burst layout image all block k i inside h low (suc (layout .s)),
-  spark-lost layout image all block k i inside h low,
-)
+bytes-from-word : (s word n at : ℕ) → n ≤ 4 * s → Within n (4 * word) at → Within s word (at / 4)
+bytes-from-word s word n at few w = (omega (arith, w .0), omega (arith, w .1))
+
+bytes-more : (s word : ℕ) → 1 ≤ s → (last : ℕ) × Within (4 * s - 2) (4 * word + 3) last × (last / 4 ≡ (4 * word + 3) / 4 + s)
+bytes-more s word some = (4 * word + 4 * s, (omega arith, omega arith), omega arith)
 
 pub bursts : Bursts
 bursts =
@@ -99,6 +76,13 @@ bursts =
       reads-right = read-right;
       round = round;
       turns-none-lost = turns-kept;
-      too-many = too-many;
-      tight = tight;
+      too-many = λ layout image spoiled all block k i inside pair low.
+          pair-lost layout image all block k i inside (omega (arith, pair)) low spoiled;
+      tight = λ layout image all block k i inside pair low. (
+        sparked-burst layout image all block k i inside pair low (suc (layout .s)),
+        spark-lost layout image all block k i inside pair low,
+      );
+      bytes-from-word = bytes-from-word;
+      bytes = bytes;
+      bytes-more = bytes-more;
     }

@@ -5,11 +5,9 @@ use mathlib.Core.List.{List, [], _∷_, _++_, append-assoc}
 use native.Mathlib.Omega.{arith}
 use lib.ListN.{length}
 use Rattle.ground.specs.Choice.{ifZero}
-use Rattle.block.specs.Verdict.{Said}
 use Rattle.layout.specs.declared.Layout.{Layout}
 use Rattle.layout.specs.Layout.{blocks}
 use Rattle.layout.specs.Refusal.{imageRefusal}
-use Rattle.store.specs.declared.Answer.{Answer}
 use Rattle.store.specs.Answer.{answerSaid}
 use Rattle.store.specs.Visit.{Visits, visitAnswer, visitAfter}
 use Rattle.store.proofs.Promises.{visits}
@@ -23,14 +21,22 @@ use Rattle.patrol.specs.Numbers.{Seen, reportNumber, reportFirst, reportSecond}
 use Rattle.patrol.specs.Turn.{patrolled, turnedNow, turned, turnAfter, Turns}
 use Rattle.patrol.proofs.Promises.{turns as turned-so}
 use Rattle.demands.specs.Demand2.{Turning}
-use Rattle.demands.specs.Demand3.{PatrolVisits, store, NotFormatted}
+use Rattle.demands.specs.Demand3.{PatrolVisits, store}
 use Rattle.demands.specs.Steps.{Step, format, write, read, visit, ask, turn, flip, State, fresh, stepAfter, after, turns}
 use Rattle.demands.specs.Burst.{AllValid, Burst, Each, FlipWithin, Quiet, Sparked}
 use Rattle.demands.proofs.Demand2.{demand-2}
 use Rattle.demands.proofs.Demand3.{demand-3}
 use Rattle.demands.proofs.Lasting.{store-size, step-layout, after-layout, front-none}
 use Rattle.demands.proofs.Spoiled.{
-  burst-flip, Spoiled, AsWas, burst-spoils, all-as-was, visit-kept, visit-restores, visit-leaves, visit-keeps,
+  burst-flip,
+  Spoiled,
+  AsWas,
+  burst-spoils,
+  all-as-was,
+  visit-kept,
+  visit-restores,
+  visit-leaves,
+  visit-keeps,
 }
 
 each-rest : (Such : Step → Type 0) (step : Step) (rest : List Step) → Each Such (step ∷ rest) → Each Such rest
@@ -229,12 +235,13 @@ module _ (image : List ℕ) (layout : Layout) (before spark since : List Step) (
       (late .1 .1 block inside same)
 
   pub round : blocks layout ≤ turns since → store image layout (before ++ spark ++ since) .image ≡ was
+  unfolding turns
   round enough =
       let left = quiet-so layout was (sparked .valid) since struck (sparked .quiet) struck-names struck-so in
       ap (λ (s : State). s .image) (since-is since)
       ∙ all-as-was layout was (sparked .valid) (after since struck .image) (left .1 .0 .size)
       (λ block inside.
-      let found = demand-3 .every-block-visited image layout fits (before ++ spark) since (sparked .kept) enough block inside in
+      let found = demand-3 .every-block-visited image layout fits (before ++ spark) since (sparked .kept) (omega (arith, enough)) block inside in
       visited-so (found .0) (found .1) (found .2) block inside (found .3))
 
   pub turns-kept : (answer : Turned) (left : List ℕ)

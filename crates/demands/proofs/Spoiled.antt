@@ -215,4 +215,4 @@ module _ (layout : Layout) (image : List ℕ) (all : AllValid layout image) wher
   pub order-restores : (order now after : List ℕ) → Spoiled now → EveryBlock layout order → VisitsInOrder layout order now after → after ≡ image
   order-restores order now after ok every v =
       let left = order-leaves order now after ok v in
-      all-as-was after (left .0 .size) (λ block h. left .1 block h (inl (every block h)))
+      all-as-was after (left .0 .size) (λ block h. left .1 block h (inl (every block (omega (arith, h)))))

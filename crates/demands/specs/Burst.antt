@@ -1,6 +1,6 @@
 -- A burst: a spark spoils neighbouring words. Where every block is valid, spoil any bits in at most s neighbouring words, across a group border too,
 -- and visit every block, in any order: the image is then what it was, and no visit says lost. s + 1 words can lose a block. Assumes nothing.
-use Prim.Native.Nat.{ℕ, zero, suc, _+_, _≤_, _<_}
+use Prim.Native.Nat.{ℕ, zero, suc, _+_, _-_, _*_, _/_, _≤_, _<_}
 use mathlib.Core.Bool.{not}
 use mathlib.Core.Path.{_≡_}
 use mathlib.Core.List.{List, [], _∷_, _++_}
@@ -66,7 +66,21 @@ Comes block (first ∷ rest) = (first ≡ block) ⊎ Comes block rest
 abbrev pub EveryBlock : Layout → List ℕ → Type 0
 EveryBlock layout order = (block : ℕ) → block < blocks layout → Comes block order
 
+-- every accepted read of demand 3, had a burst come straight before it
+abbrev pub ReadsStruck : List ℕ → Layout → Type 0
+ReadsStruck image layout =
+    (steps : List Step) → OneLayout image layout steps → WordsWritten steps → FlipsSpaced image layout steps → NotFormatted image layout steps
+    → (before rest : List Step) (named : Layout) (block : ℕ) (buffer : List ℕ) → steps ≡ before ++ read named block buffer ∷ rest
+    → (spoiled : List ℕ) → Struck layout (store image layout before .image) spoiled
+    → (answer : Answer) (kept left : List ℕ) → Reads spoiled named block buffer answer kept left
+    → answerNumber answer ≡ 0
+    → (SaysLost answer → ⊥) × (left ≡ lastWritten block (replicate (wordsOf layout) 0) before (fresh image layout))
+
 -- ---- one word more
+
+-- rows k + 1 and k + 2 of a block are both there
+abbrev pub RowsPair : Layout → ℕ → Type 0
+RowsPair layout k = suc k < rowsOf layout
 
 -- bit i of a word is changed
 abbrev pub Changed : (i at : ℕ) → (image spoiled : List ℕ) → Type 0
@@ -129,14 +143,7 @@ pub record Bursts : Type 0 where
       → answerNumber answer ≡ 0
       → (SaysLost answer → ⊥) × (filled ≡ dataOf (shapeOf layout) (storedRows layout block image))
   -- so a read that demand 3 speaks of gives the data last written, or zeros, though a burst came straight before it
-  pub reads-right : (image : List ℕ) (layout : Layout) (steps : List Step) → OneLayout image layout steps → WordsWritten steps
-      → FlipsSpaced image layout steps
-      → NotFormatted image layout steps
-      → (before rest : List Step) (named : Layout) (block : ℕ) (buffer : List ℕ) → steps ≡ before ++ read named block buffer ∷ rest
-      → (spoiled : List ℕ) → Struck layout (store image layout before .image) spoiled
-      → (answer : Answer) (kept left : List ℕ) → Reads spoiled named block buffer answer kept left
-      → answerNumber answer ≡ 0
-      → (SaysLost answer → ⊥) × (left ≡ lastWritten block (replicate (wordsOf layout) 0) before (fresh image layout))
+  pub reads-right : (image : List ℕ) (layout : Layout) → ReadsStruck image layout
   -- the patrol is such an order: N turns after a spark, whatever other calls but writes come between, the image is what it was
   pub round : (image : List ℕ) (layout : Layout) (before spark since : List Step) → Sparked image layout before spark since
       → blocks layout ≤ turns since
@@ -146,17 +153,24 @@ pub record Bursts : Type 0 where
       → (answer : Turned) (left : List ℕ)
       → Turns (store image layout (before ++ spark ++ since) .patrol) (store image layout (before ++ spark ++ since) .image) answer left
       → (reportFirst (answer .report) .said .verdict ≡ 3 → ⊥) × (reportSecond (answer .report) .said .verdict ≡ 3 → ⊥)
-  -- s + 1 neighbouring words are too many: the first and the last are rows of one block, and where the same bit of both is changed it is lost
+  -- s + 1 neighbouring words are too many: the first and the last are rows k + 1 and k + 2 of one block, and where the same bit of both is
+  -- changed it is lost, and left as it is
   pub too-many : (layout : Layout) (image spoiled : List ℕ) → AllValid layout image
-      → (block p i : ℕ) → block < blocks layout → 1 ≤ p → p < rowsOf layout → i < 32
-      → Burst (suc (layout .s)) (index layout block p) image spoiled
-      → Changed i (index layout block p) image spoiled
-      → Changed i (index layout block p + layout .s) image spoiled
+      → (block k i : ℕ) → block < blocks layout → RowsPair layout k → i < 32
+      → Burst (suc (layout .s)) (index layout block (suc k)) image spoiled
+      → Changed i (index layout block (suc k)) image spoiled
+      → Changed i (index layout block (suc k) + layout .s) image spoiled
       → (answer : Answer) (after : List ℕ) → Visits spoiled layout block answer after
       → SaysLost answer × (after ≡ spoiled)
-  -- one bit flipped in each of them is such a burst: for both shapes, every s and every such start
+  -- one bit flipped in each of them is such a burst: for both shapes, every s, every block and every row but its last
   pub tight : (layout : Layout) (image : List ℕ) → AllValid layout image
-      → (block p i : ℕ) → block < blocks layout → 1 ≤ p → p < rowsOf layout → i < 32
-      → Burst (suc (layout .s)) (index layout block p) image (sparked i (suc (layout .s)) (index layout block p) image)
-      × ((answer : Answer) (after : List ℕ) → Visits (sparked i (suc (layout .s)) (index layout block p) image) layout block answer after
+      → (block k i : ℕ) → block < blocks layout → RowsPair layout k → i < 32
+      → Burst (suc (layout .s)) (index layout block (suc k)) image (sparked i (suc (layout .s)) (index layout block (suc k)) image)
+      × ((answer : Answer) (after : List ℕ) → Visits (sparked i (suc (layout .s)) (index layout block (suc k)) image) layout block answer after
       → SaysLost answer)
+  -- in bytes, four to a word: 4·s bytes from a word's start on are at most s words, and so are 4·s − 3 bytes from anywhere
+  pub bytes-from-word : (s word n at : ℕ) → n ≤ 4 * s → Within n (4 * word) at → Within s word (at / 4)
+  pub bytes : (s start n at : ℕ) → n + 3 ≤ 4 * s → Within n start at → Within s (start / 4) (at / 4)
+  -- one byte more is not: from the last byte of a word on, it begins in one word and ends in the word s further on
+  pub bytes-more : (s word : ℕ) → 1 ≤ s
+      → (last : ℕ) × Within (4 * s - 2) (4 * word + 3) last × (last / 4 ≡ (4 * word + 3) / 4 + s)
