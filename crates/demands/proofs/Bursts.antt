@@ -8,7 +8,7 @@ use Rattle.layout.specs.declared.Layout.{Layout}
 use Rattle.store.specs.Read.{Reads, readAnswer, readBuffer}
 use Rattle.store.specs.Refusal.{dataRefusal}
 use Rattle.store.proofs.Promises.{reads}
-use Rattle.demands.specs.Steps.{read}
+use Rattle.demands.specs.Steps.{read, turns}
 use Rattle.demands.specs.Demand3.{store}
 use Rattle.demands.specs.Burst.{AllValid, Within, Struck, VisitsInOrder, ReadsStruck, Bursts}
 use Rattle.demands.proofs.Demand3.{demand-3}
@@ -63,6 +63,7 @@ bytes-more : (s word : ℕ) → 1 ≤ s → (last : ℕ) × Within (4 * s - 2) (
 bytes-more s word some = (4 * word + 4 * s, (omega arith, omega arith), omega arith)
 
 pub bursts : Bursts
+unfolding turns
 bursts =
     record {
       restored = λ layout image spoiled struck order after every v.
@@ -74,7 +75,7 @@ bursts =
       reads = λ layout image spoiled struck done between v block.
           read-kept layout image (struck .valid) between (on-the-way layout image spoiled struck done between v) block;
       reads-right = read-right;
-      round = round;
+      round = λ image layout before spark since sparked enough. round image layout before spark since sparked (omega (arith, enough));
       turns-none-lost = turns-kept;
       too-many = λ layout image spoiled all block k i inside pair low.
           pair-lost layout image all block k i inside (omega (arith, pair)) low spoiled;

@@ -235,13 +235,12 @@ module _ (image : List ℕ) (layout : Layout) (before spark since : List Step) (
       (late .1 .1 block inside same)
 
   pub round : blocks layout ≤ turns since → store image layout (before ++ spark ++ since) .image ≡ was
-  unfolding turns
   round enough =
       let left = quiet-so layout was (sparked .valid) since struck (sparked .quiet) struck-names struck-so in
       ap (λ (s : State). s .image) (since-is since)
       ∙ all-as-was layout was (sparked .valid) (after since struck .image) (left .1 .0 .size)
       (λ block inside.
-      let found = demand-3 .every-block-visited image layout fits (before ++ spark) since (sparked .kept) (omega (arith, enough)) block inside in
+      let found = demand-3 .every-block-visited image layout fits (before ++ spark) since (sparked .kept) enough block inside in
       visited-so (found .0) (found .1) (found .2) block inside (found .3))
 
   pub turns-kept : (answer : Turned) (left : List ℕ)
