@@ -4,3 +4,4 @@ pub mod Running
 pub mod Demands
 pub mod Files
 pub mod Stored
+pub mod Burst

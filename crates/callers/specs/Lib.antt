@@ -2,3 +2,4 @@ pub mod Handing
 pub mod Demands
 pub mod Files
 pub mod Stored
+pub mod Burst

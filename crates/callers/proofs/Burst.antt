@@ -1,0 +1,46 @@
+-- Of a burst, for a caller in C: his visits are the store's. Assumes nothing.
+use Prim.Native.Nat.{ℕ}
+use mathlib.Core.Path.{_≡_, refl, sym, ap, _∙_}
+use mathlib.Core.List.{List, [], _∷_}
+use lib.ListN.{getD}
+use Rattle.layout.specs.declared.Layout.{Layout}
+use Rattle.store.specs.Read.{readAnswer, readBuffer}
+use Rattle.store.specs.Visit.{visitAnswer, visitAfter}
+use Rattle.store.proofs.Promises.{reads, visits}
+use Rattle.demands.specs.Burst.{VisitsInOrder}
+use Rattle.demands.proofs.Bursts.{bursts}
+use Rattle.callers.specs.Burst.{VisitCalls, CallerBursts}
+use Rattle.callers.proofs.Answers.{read-said, visit-said}
+
+in-order : (layout : Layout) (order image after : List ℕ) → VisitCalls layout order image after → VisitsInOrder layout order image after
+unfolding VisitCalls VisitsInOrder
+in-order layout [] image after v = v
+in-order layout (block ∷ rest) image after v =
+    (visitAnswer image layout block, v .2, visits image layout block refl (v .3 .leaves), in-order layout rest (v .2) after (v .4))
+
+first-word : {said words : List ℕ} → words ≡ said → getD words 0 0 ≡ getD said 0 0
+first-word e = ap (λ (l : List ℕ). getD l 0 0) e
+
+pub caller-bursts : CallerBursts
+caller-bursts =
+    record {
+      restored = λ {layout} {image} {spoiled} struck order after every v.
+          bursts .restored layout image spoiled struck order after every (in-order layout order spoiled after v);
+      none-lost = λ {layout} {image} {spoiled} struck done between v {block} {number} {after} {verdict} c says.
+          bursts .none-lost layout image spoiled struck done between (in-order layout done spoiled between v) block
+          (visitAnswer between layout block)
+          (visitAfter between layout block)
+          (visits between layout block refl refl)
+          (sym (first-word (visit-said c .1)) ∙ says);
+      reads = λ {layout} {image} {spoiled} struck done between v {block} {number} {buffer} {kept} {filled} {verdict} c z.
+          let told =
+          bursts .reads layout image spoiled struck done between (in-order layout done spoiled between v) block buffer
+          (readAnswer between layout block buffer)
+          between
+          (readBuffer between layout block buffer)
+          (reads between layout block buffer refl refl)
+          (sym (read-said c .0) ∙ z) in (
+            λ says. told .0 (sym (first-word (read-said c .1)) ∙ says),
+            c .leaves ∙ told .1,
+          );
+    }

@@ -1,0 +1,36 @@
+-- What a caller in C is told of a burst in at most s neighbouring words of a valid image: visits of every block, in any order, leave the image as it
+-- was, no visit's words say lost, and a read gives what the block held. Assumes nothing.
+use Prim.Native.Nat.{ℕ}
+use mathlib.Core.Path.{_≡_}
+use mathlib.Core.List.{List, [], _∷_}
+use lib.ListN.{getD}
+use Rattle.layout.specs.declared.Layout.{Layout}
+use Rattle.layout.specs.Layout.{shapeOf}
+use Rattle.block.specs.Block.{dataOf}
+use Rattle.store.specs.Image.{storedRows}
+use Rattle.foldgrebe.specs.Calls.{ReadCall, VisitCall}
+use Rattle.demands.specs.Burst.{Struck, EveryBlock}
+
+-- the blocks of a list are visited one after the other
+unfoldable pub VisitCalls : Layout → List ℕ → (image after : List ℕ) → Type 0
+VisitCalls layout [] image after = after ≡ image
+VisitCalls layout (block ∷ rest) image after =
+    (number : ℕ) × (verdict between : List ℕ) × VisitCall image layout block number between verdict × VisitCalls layout rest between after
+
+-- the first of a verdict's words is that of lost
+abbrev pub WordsLost : List ℕ → Type 0
+WordsLost verdict = getD verdict 0 0 ≡ 3
+
+pub record CallerBursts : Type 0 where
+  pub restored : {layout : Layout} {image spoiled : List ℕ} → Struck layout image spoiled
+      → (order after : List ℕ) → EveryBlock layout order → VisitCalls layout order spoiled after
+      → after ≡ image
+  pub none-lost : {layout : Layout} {image spoiled : List ℕ} → Struck layout image spoiled
+      → (done between : List ℕ) → VisitCalls layout done spoiled between
+      → {block number : ℕ} {after verdict : List ℕ} → VisitCall between layout block number after verdict
+      → WordsLost verdict → ⊥
+  pub reads : {layout : Layout} {image spoiled : List ℕ} → Struck layout image spoiled
+      → (done between : List ℕ) → VisitCalls layout done spoiled between
+      → {block number : ℕ} {buffer kept filled verdict : List ℕ} → ReadCall between layout block buffer number kept filled verdict
+      → number ≡ 0
+      → (WordsLost verdict → ⊥) × (filled ≡ dataOf (shapeOf layout) (storedRows layout block image))
