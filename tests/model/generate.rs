@@ -135,6 +135,34 @@ pub fn death(r: &mut Random, at: Layout, b: u32) -> Vec<Put> {
     (1..=block::rows(at.shape)).map(|row| (store::index(at.shape, at.s, b, row), word)).collect()
 }
 
+/// An image in which every block is valid.
+pub fn valid_image(r: &mut Random, at: Layout) -> Vec<u32> {
+    let mut image = vec![0; at.words()];
+    for b in 0..at.blocks() {
+        let data = any_data(r, block::data_words(at.shape));
+        store::put_block(&mut image, at.shape, at.s, b, &block::valid_block(at.shape, &data));
+    }
+    image
+}
+
+/// A burst: so many neighbouring words with any bits of them changed, as often as not across the end of a group.
+pub fn burst(r: &mut Random, at: Layout, image: &[u32], many: usize) -> Vec<Put> {
+    let group = image.len() / at.g as usize;
+    let mut start = r.below((image.len() - many + 1) as u64) as usize;
+    if at.g > 1 && r.chance(50) {
+        start = group * r.from_to(1, at.g - 1) as usize - r.from_to(1, many as u32) as usize;
+    }
+    (start..start + many).map(|index| (index, image[index] ^ any_bits(r))).collect()
+}
+
+fn any_bits(r: &mut Random) -> u32 {
+    match r.below(4) {
+        0 => u32::MAX,
+        1 => 1 << r.below(32),
+        _ => r.word(),
+    }
+}
+
 /// The index of some row of a block.
 fn any_row(r: &mut Random, at: Layout, b: u32) -> usize {
     let row = if r.chance(30) { r.pick(block::check_rows(at.shape)) } else { r.from_to(1, block::rows(at.shape) as u32) as usize };

@@ -29,12 +29,22 @@ impl Stream {
         writeln!(self.expected, ".")
     }
 
-    fn call(&mut self, mut call: Call, lent: &mut Lent) -> io::Result<()> {
+    /// Makes a call, and gives its kind.
+    fn make(&mut self, mut call: Call, lent: &mut Lent) -> io::Result<String> {
         let before = lent.clone();
         writeln!(self.calls, "{}", text::call_line(&call))?;
         let answer = call::run(&mut call, lent);
         writeln!(self.expected, "{}", text::answer_line(&call, &answer, &before, lent))?;
-        *self.tally.entry(kind(&call, &answer, &before)).or_default() += 1;
+        Ok(kind(&call, &answer, &before))
+    }
+
+    fn count(&mut self, kind: String) {
+        *self.tally.entry(kind).or_default() += 1;
+    }
+
+    fn call(&mut self, call: Call, lent: &mut Lent) -> io::Result<()> {
+        let kind = self.make(call, lent)?;
+        self.count(kind);
         Ok(())
     }
 }
@@ -126,6 +136,7 @@ pub fn kinds() -> Vec<String> {
     for (name, first, then) in ladders {
         first.iter().chain(then).for_each(|answer| kinds.push(format!("{name} {answer}")));
     }
+    BURSTS.iter().for_each(|answer| kinds.push(format!("visit {answer}")));
     kinds
 }
 
@@ -196,6 +207,47 @@ fn renew(stream: &mut Stream, at: Layout, lent: &mut Lent) -> io::Result<()> {
     stream.call(call(Name::FileWrite), lent)
 }
 
+/// The most blocks of an image that is struck by a burst.
+const STRUCK: u32 = 40;
+
+/// Neighbouring words of an image of valid blocks are spoiled, up to s of them or s + 1, and every block is visited once, in any order.
+/// The last visit is counted by what became of them all: the model too must find the image as it was after up to s words.
+fn strike(r: &mut Random, stream: &mut Stream, at: Layout, lent: &mut Lent) -> io::Result<()> {
+    let whole = generate::valid_image(r, at);
+    lent.image = whole.clone();
+    stream.set(&text::image_line(&lent.image))?;
+    let wide = r.chance(50);
+    let many = if wide { at.s + 1 } else { r.from_to(1, at.s) };
+    let puts = generate::burst(r, at, &whole, many as usize);
+    puts.iter().for_each(|(index, word)| lent.image[*index] = *word);
+    stream.set(&text::put_line(&puts))?;
+    let mut order: Vec<u32> = (0..at.blocks()).collect();
+    for i in (1..order.len()).rev() {
+        order.swap(i, r.below(i as u64 + 1) as usize);
+    }
+    let mut lost = false;
+    for (i, block) in order.iter().enumerate() {
+        let call = Call { name: Name::Visit, words: at.words() as u64, shape: at.shape, s: at.s, g: at.g, block: *block, list: Vec::new(), bytes: 0 };
+        let kind = stream.make(call, lent)?;
+        lost |= kind.contains("lost");
+        stream.count(if i + 1 < order.len() { kind } else { format!("visit 0 burst {}", became(wide, lost, lent.image == whole)) });
+    }
+    Ok(())
+}
+
+/// What became of a burst of up to s words, or of s + 1.
+fn became(wide: bool, lost: bool, as_it_was: bool) -> &'static str {
+    match (wide, lost, as_it_was) {
+        (false, false, true) => "of up to s words, as it was",
+        (true, false, true) => "of s + 1 words, as it was",
+        (true, true, false) => "of s + 1 words, lost",
+        _ => panic!("a burst was mended to something else"),
+    }
+}
+
+/// What can become of one.
+const BURSTS: [&str; 3] = ["0 burst of up to s words, as it was", "0 burst of s + 1 words, as it was", "0 burst of s + 1 words, lost"];
+
 fn scene(r: &mut Random, stream: &mut Stream, length: u64) -> io::Result<()> {
     let at = generate::any_layout(r);
     let mut lent = Lent { image: generate::any_image(r, at), record: generate::any_record(r, at), file: room::any_room(r, at) };
@@ -208,6 +260,11 @@ fn scene(r: &mut Random, stream: &mut Stream, length: u64) -> io::Result<()> {
         if r.chance(1) && left >= RENEWING && room::length(at) <= lent.file.len().min(LONGEST) {
             renew(stream, at, &mut lent)?;
             left -= RENEWING;
+            continue;
+        }
+        if r.chance(1) && at.blocks() <= STRUCK && left >= u64::from(at.blocks()) {
+            strike(r, stream, at, &mut lent)?;
+            left -= u64::from(at.blocks());
             continue;
         }
         let call = generate::any_call(r, at, &lent);

@@ -66,6 +66,8 @@ fn accepted_files() {
     show(b"version-1.img");
     show(b"version-1-interleaved");
     show(b"version-1-kinds");
+    show(b"burst.img");
+    show(b"burst-more.img");
 }
 
 fn main() {

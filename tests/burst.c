@@ -1,0 +1,208 @@
+/* What a burst can do. A store is filled, neighbouring words are spoiled, and every block is visited once, in any order, or by
+   N turns of the patrol. Up to s words, or 4 * s - 3 bytes from anywhere: every read straight after gives what was written, no
+   visit says lost, and the image ends as it was. s + 1 words: a block is lost exactly if the first and the last of them are
+   rows of it and have a changed bit in common; what became of them is told. Only the library's answers are used, and where
+   the rows lie.
+
+   burst SEED ROUNDS   so many rounds on each shape and each s; exits 1 at the first wrong answer. */
+#include <stdio.h>
+#include <stdlib.h>
+#include <string.h>
+#include "foldgrebe.h"
+
+enum { MOST_BLOCKS = 80, MOST_ROWS = 72, MOST_DATA = 64, MOST_S = 16, NONE = -1 };
+
+static uint32_t shape, s, g, n, rows, data_words;                       /* the store's layout */
+static uint32_t image[MOST_BLOCKS * MOST_ROWS], whole[MOST_BLOCKS * MOST_ROWS], spoiled[MOST_BLOCKS * MOST_ROWS];
+static size_t words;
+static uint32_t record[FOLDGREBE_RECORD_WORDS];
+static uint32_t meant[MOST_BLOCKS][MOST_DATA];                          /* what was written */
+static uint64_t short_bursts, byte_bursts, borders, by_turns, long_lost, long_apart, long_border;
+static uint64_t random_state, seed;
+
+static uint64_t random_number(void)
+{
+    uint64_t z = random_state += 0x9e3779b97f4a7c15u;
+    z = (z ^ z >> 30) * 0xbf58476d1ce4e5b9u;
+    z = (z ^ z >> 27) * 0x94d049bb133111ebu;
+    return z ^ z >> 31;
+}
+
+static uint32_t below(uint32_t k) { return (uint32_t)((random_number() >> 16) % k); }
+
+static void expect(int holds, const char *what, uint32_t block)
+{
+    if (holds) return;
+    printf("burst: %s (seed %llu, shape %u, s %u, G %u, block %u)\n", what, (unsigned long long)seed, shape, s, g, block);
+    exit(1);
+}
+
+static uint32_t ones(uint32_t x) { uint32_t c = 0; for (; x; x &= x - 1) c++; return c; }
+
+static size_t index_of(uint32_t block, uint32_t row) { return (size_t)(block / s) * rows * s + (size_t)(row - 1) * s + block % s; }
+
+/* The bits of a block that differ from what it held. */
+static uint32_t bits_off(uint32_t block)
+{
+    uint32_t bits = 0;
+    for (uint32_t row = 1; row <= rows; row++) bits += ones(image[index_of(block, row)] ^ whole[index_of(block, row)]);
+    return bits;
+}
+
+static void fill_store(void)
+{
+    expect(foldgrebe_format(image, words, shape, s, g, record) == 0, "format refused", 0);
+    for (uint32_t block = 0; block < n; block++) {
+        for (uint32_t i = 0; i < data_words; i++) meant[block][i] = (uint32_t)random_number();
+        expect(foldgrebe_write(image, words, shape, s, g, block, meant[block], data_words) == 0, "write refused", block);
+    }
+    memcpy(whole, image, sizeof whole);
+}
+
+/* Some bits of a word, or all of them, or one; never none. */
+static uint32_t some_bits(void)
+{
+    uint32_t bits = (uint32_t)random_number();
+    switch (below(4)) {
+    case 0: return UINT32_MAX;
+    case 1: return 1u << below(32);
+    default: return bits ? bits : 1;
+    }
+}
+
+/* Where so many words begin: anywhere, and as often across a group border, where there is one. */
+static size_t some_start(size_t many)
+{
+    size_t group = (size_t)rows * s;
+    if (g > 1 && below(2)) {
+        borders++;
+        return group * (1 + below(g - 1)) - 1 - below((uint32_t)(many > 1 ? many - 1 : 1));
+    }
+    return below((uint32_t)(words - many + 1));
+}
+
+static void spoil_words(size_t start, size_t many)
+{
+    for (size_t i = start; i < start + many && i < words; i++) image[i] ^= some_bits();
+    short_bursts++;
+}
+
+/* At most 4 * s - 3 bytes from anywhere, or 4 * s from a word's start. */
+static void spoil_bytes(void)
+{
+    uint8_t *bytes = (uint8_t *)image;
+    int from_word = (int)below(2);
+    size_t many = from_word ? 4 * s : 4 * s - 3, start = from_word ? 4 * below((uint32_t)words) : below((uint32_t)(4 * words));
+    for (size_t i = start; i < start + many && i < 4 * words; i++) bytes[i] ^= (uint8_t)random_number();
+    byte_bursts++;
+}
+
+static void expect_kept(uint32_t block, const uint32_t verdict[FOLDGREBE_VERDICT_WORDS], uint32_t bits)
+{
+    expect(verdict[FOLDGREBE_VERDICT_NUMBER] == (bits ? FOLDGREBE_MENDED : FOLDGREBE_CLEAN) && verdict[FOLDGREBE_VERDICT_COUNT] == bits &&
+               verdict[FOLDGREBE_VERDICT_BEYOND] == 0, "wrong verdict or count", block);
+}
+
+/* A read straight after the burst gives what was written, and leaves the image. */
+static void read_all(void)
+{
+    memcpy(spoiled, image, sizeof spoiled);
+    for (uint32_t block = 0; block < n; block++) {
+        uint32_t buffer[MOST_DATA], verdict[FOLDGREBE_VERDICT_WORDS];
+        expect(foldgrebe_read(image, words, shape, s, g, block, buffer, data_words, verdict) == 0, "read refused", block);
+        expect_kept(block, verdict, bits_off(block));
+        expect(memcmp(buffer, meant[block], data_words * sizeof *buffer) == 0, "read is not what was written", block);
+    }
+    expect(memcmp(image, spoiled, sizeof image) == 0, "a read altered the image", 0);
+}
+
+/* Every block once in a random order, with some of them again on the way. LOST is the block that must be lost, in these lanes. */
+static void visit_all(int lost, uint32_t lanes)
+{
+    uint32_t order[MOST_BLOCKS], verdict[FOLDGREBE_VERDICT_WORDS];
+    for (uint32_t i = 0; i < n; i++) order[i] = i;
+    for (uint32_t i = n; i-- > 1;) {
+        uint32_t j = below(i + 1), other = order[i];
+        order[i] = order[j], order[j] = other;
+    }
+    for (uint32_t i = 0; i < n; i++) {
+        uint32_t block = order[below(4) ? i : below(i + 1)], bits = bits_off(block);
+        i -= block != order[i];
+        expect(foldgrebe_visit(image, words, shape, s, g, block, verdict) == 0, "visit refused", block);
+        if ((int)block != lost) expect_kept(block, verdict, bits);
+        else expect(verdict[FOLDGREBE_VERDICT_NUMBER] == FOLDGREBE_LOST && verdict[FOLDGREBE_VERDICT_COUNT] == ones(lanes) &&
+                        verdict[FOLDGREBE_VERDICT_BEYOND] == 0 && bits_off(block) == bits, "a block with two bits off in a lane is not lost", block);
+    }
+}
+
+/* N turns, with an ask now and then. */
+static void turn_all(void)
+{
+    uint32_t report[FOLDGREBE_REPORT_WORDS], place[1];
+    for (uint32_t turns = 0; turns < n; turns++) {
+        if (below(3) == 0) foldgrebe_ask(record, below(n), place);
+        expect(foldgrebe_turn(record, image, words, report) == 0, "turn refused", turns);
+        expect(report[FOLDGREBE_REPORT_VERDICT] != FOLDGREBE_LOST && report[FOLDGREBE_REPORT_ASK_VERDICT] != FOLDGREBE_LOST, "a turn reports lost", turns);
+    }
+    by_turns++;
+}
+
+static void expect_whole(void) { expect(memcmp(image, whole, sizeof image) == 0, "the image is not what it was", 0); }
+
+static void burst_up_to_s(void)
+{
+    size_t many = 1 + below(s);
+    if (below(3) == 0) spoil_bytes();
+    else spoil_words(some_start(many), many);
+    read_all();
+    if (below(2)) visit_all(NONE, 0);
+    else turn_all();
+    expect_whole();
+    visit_all(NONE, 0);
+    expect_whole();
+}
+
+/* The first and the last of s + 1 words are s apart: rows of one block, but where a group ends between them. */
+static void burst_one_more(void)
+{
+    size_t start = some_start(s + 1), last = start + s;
+    for (size_t i = start; i <= last; i++) image[i] ^= some_bits();
+    int one_block = start / s % rows != rows - 1;
+    uint32_t common = (image[start] ^ whole[start]) & (image[last] ^ whole[last]);
+    uint32_t block = (uint32_t)(start / s / rows * s + start % s);
+    if (one_block && common) {
+        visit_all((int)block, common);
+        for (uint32_t other = 0; other < n; other++) expect(other == block || bits_off(other) == 0, "a block beside the lost one is not mended", other);
+        long_lost++;
+    } else {
+        visit_all(NONE, 0);
+        expect_whole();
+        *(one_block ? &long_apart : &long_border) += 1;
+    }
+}
+
+static void one_store(void)
+{
+    rows = shape == 1 ? 16 : 72, data_words = shape == 1 ? 11 : 64;
+    g = 1 + below(MOST_BLOCKS / MOST_S), n = s * g, words = (size_t)rows * n;
+    memset(image, 0, sizeof image);
+    fill_store();
+    burst_up_to_s();
+    if (below(2)) fill_store();
+    burst_one_more();
+}
+
+int main(int count, char **arguments)
+{
+    if (count != 3) return 2;
+    seed = random_state = strtoull(arguments[1], 0, 10);
+    for (unsigned long rounds = strtoul(arguments[2], 0, 10); rounds--;)
+        for (shape = 1; shape <= 2; shape++)
+            for (s = 1; s <= MOST_S; s++) one_store();
+    printf("burst: %llu of up to s words and %llu of bytes mended whole, %llu of them by turns; of s + 1 words %llu lost a block, %llu had no bit in "
+           "common there, %llu lay across a group border\n", (unsigned long long)short_bursts, (unsigned long long)byte_bursts,
+           (unsigned long long)by_turns, (unsigned long long)long_lost, (unsigned long long)long_apart, (unsigned long long)long_border);
+    int seen = short_bursts && byte_bursts && by_turns && borders && long_lost && long_apart && long_border;
+    if (!seen) printf("burst: some kind never came\n");
+    return !seen;
+}
