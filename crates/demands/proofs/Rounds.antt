@@ -222,11 +222,12 @@ module _ (image : List ℕ) (layout : Layout) (before spark since : List Step) (
       let each = each-split (Quiet layout) since first rest turn (sparked .quiet) e in
       let now = after first struck in
       let early = quiet-so layout was (sparked .valid) first struck (each .0) struck-names struck-so in
-      let p = turned-so (now .patrol) (now .image) {answer = turned (now .patrol) (now .image)} {after = turnAfter (now .patrol) (now .image)} refl refl in
-      let seen =
-      reports (turned (now .patrol) (now .image)) (turnAfter (now .patrol) (now .image))
-      (subst (λ (s : State). Turns (s .patrol) (s .image) (turned (now .patrol) (now .image)) (turnAfter (now .patrol) (now .image))) (sym (since-is first)) p) in
-      let same = turn-restores layout was (sparked .valid) (now .patrol) (now .image) (early .0) (early .1 .0) _ _ p (seen .0) block inside (seen .1 .0) in
+      let answer = turned (now .patrol) (now .image) in
+      let left = turnAfter (now .patrol) (now .image) in
+      let p = turned-so (now .patrol) (now .image) {answer = answer} {after = left} refl refl in
+      let seen = reports answer left (subst (λ (s : State). Turns (s .patrol) (s .image) answer left) (sym (since-is first)) p) in
+      let same =
+      turn-restores layout was (sparked .valid) (now .patrol) (now .image) (early .0) (early .1 .0) answer left p (seen .0) block inside (seen .1 .0) in
       let one = step-so layout was (sparked .valid) turn now tt (early .0) (early .1 .0) in
       let named = step-layout turn now (λ other q z. let n : _≡_ {A = ℕ} 0 1 = cc in omega arith) ∙ early .0 in
       let late = quiet-so layout was (sparked .valid) rest (stepAfter turn now) (each .1) named (one .0) in

@@ -54,11 +54,12 @@ module _ (layout : Layout) (n start : ℕ) (image spoiled : List ℕ) (few : n �
   off-within : (k : ℕ) → k < rowsOf layout → offs (suc k) ≡ true → Within n start (index layout block (suc k))
   off-within k h t =
       let at = index layout block (suc k) in
+      let word = getD (storedRows layout block image) k 0 in
       let out : (Within n start at → ⊥) → Within n start at =
       λ ne.
-      let same : getD (storedRows layout block spoiled) k 0 ≡ getD (storedRows layout block image) k 0 =
+      let same : getD (storedRows layout block spoiled) k 0 ≡ word =
       rows-row layout block spoiled k h ∙ elsewhere at ne ∙ sym (rows-row layout block image k h) in
-      absurd (true≢false (sym t ∙ ap (λ (w : ℕ). bit i w ⊕ bit i (getD (storedRows layout block image) k 0)) same ∙ ⊕-self (bit i (getD (storedRows layout block image) k 0)))) in
+      absurd (true≢false (sym t ∙ ap (λ (w : ℕ). bit i w ⊕ bit i word) same ∙ ⊕-self (bit i word))) in
       by-cases (decLt at start) (λ l. out (λ w. omega (arith, w .0)))
       (λ l.
       by-cases (decLt at (start + n)) (λ m. (omega arith, m)) (λ m. out (λ w. omega (arith, w .1))))
