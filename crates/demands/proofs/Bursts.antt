@@ -11,6 +11,7 @@ use Rattle.store.proofs.Promises.{reads}
 use Rattle.demands.specs.Steps.{read, turns}
 use Rattle.demands.specs.Demand3.{store}
 use Rattle.demands.specs.Burst.{AllValid, Within, Struck, VisitsInOrder, ReadsStruck, Bursts}
+use Rattle.demands.proofs.AllValid.{fresh-valid, write-valid}
 use Rattle.demands.proofs.Demand3.{demand-3}
 use Rattle.demands.proofs.Numbers.{read-number}
 use Rattle.demands.proofs.Spoiled.{Spoiled, burst-spoils, order-leaves, order-restores, visit-kept, visit-accepted, read-kept}
@@ -66,6 +67,8 @@ pub bursts : Bursts
 unfolding turns
 bursts =
     record {
+      fresh-valid = fresh-valid;
+      write-valid = write-valid;
       restored = λ layout image spoiled struck order after every v.
           order-restores layout image (struck .valid) order spoiled after (struck-spoils layout image spoiled struck) every v;
       none-lost = λ layout image spoiled struck done between v block.

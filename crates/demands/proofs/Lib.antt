@@ -22,6 +22,7 @@ pub mod Spaced
 pub mod Written
 pub mod Reading
 pub mod Demand3
+pub mod AllValid
 pub mod Spoiled
 pub mod TooMany
 pub mod Rounds

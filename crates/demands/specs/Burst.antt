@@ -16,7 +16,10 @@ use Rattle.store.specs.Answer.{answerNumber}
 use Rattle.store.specs.Image.{storedRows}
 use Rattle.store.specs.Read.{Reads}
 use Rattle.store.specs.Visit.{Visits}
+use Rattle.store.specs.Write.{Writes}
+use Rattle.patrol.specs.declared.Formatted.{Formatted}
 use Rattle.patrol.specs.declared.Turned.{Turned}
+use Rattle.patrol.specs.Format.{Formats}
 use Rattle.patrol.specs.Numbers.{reportFirst, reportSecond}
 use Rattle.patrol.specs.Turn.{Turns}
 use Rattle.demands.specs.Demand2.{ValidStored, SaysLost}
@@ -122,6 +125,13 @@ pub record Sparked (image : List ℕ) (layout : Layout) (before spark since : Li
   pub quiet : Each (Quiet layout) since
 
 pub record Bursts : Type 0 where
+  -- every block is valid from the format on, and a write keeps it so, refused too
+  pub fresh-valid : (image : List ℕ) (layout : Layout) (answer : Formatted) (after : List ℕ) → Formats image layout answer after
+      → answer .number ≡ 0
+      → AllValid layout after
+  pub write-valid : (image : List ℕ) (layout : Layout) → AllValid layout image
+      → (block : ℕ) (list : List ℕ) (answer : Answer) (after : List ℕ) → Fitting list → Writes image layout block list answer after
+      → AllValid layout after
   -- every block is visited, in any order: the image is then what it was
   pub restored : (layout : Layout) (image spoiled : List ℕ) → Struck layout image spoiled
       → (order after : List ℕ) → EveryBlock layout order → VisitsInOrder layout order spoiled after

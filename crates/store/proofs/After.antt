@@ -6,7 +6,7 @@ use lib.ListN.{length, getD}
 use Rattle.ground.specs.Choice.{ifZero}
 use Rattle.block.specs.Block.{mendedBlock, validBlock, Fitting}
 use Rattle.block.proofs.Blocks.{length-mended, mended-fits}
-use Rattle.block.proofs.ValidBlocks.{length-valid, valid-out}
+use Rattle.block.proofs.ValidBlocks.{length-valid, valid-out, valid-fits}
 use Rattle.store.specs.Image.{gathered, placed, Untouched}
 use Rattle.layout.specs.declared.Layout.{Layout}
 use Rattle.layout.specs.Layout.{shapeOf, rowsOf}
@@ -78,6 +78,11 @@ module _ (image : List ℕ) (layout : Layout) (block : ℕ) where
     write-untouched =
         left-untouched layout block _ image (dataRefusal (length image) layout block (length list))
         (λ e. ok e .geometry .s-first)
+
+    pub write-words : Fitting image → Fitting (writeAfter image layout block list)
+    unfolding writeAfter
+    write-words fits =
+        left-words layout block _ image (dataRefusal (length image) layout block (length list)) (valid-fits (shapeOf layout) list) fits
 
     pub write-held : dataRefusal (length image) layout block (length list) ≡ 0
         → gathered layout block (writeAfter image layout block list) ≡ validBlock (shapeOf layout) list
