@@ -1,10 +1,10 @@
 -- Every block is valid after a format, and after a write where it was so before. Assumes nothing.
-use Prim.Native.Nat.{ℕ, zero, suc, _<_}
+use Prim.Native.Nat.{ℕ}
 use mathlib.Core.Path.{_≡_, sym, ap, subst, _∙_}
 use mathlib.Core.List.{List}
 use mathlib.Core.Logic.{by-cases}
 use native.Mathlib.Decide.{ℕ-discrete}
-use lib.ListN.{length, getD, replicate}
+use lib.ListN.{length, replicate}
 use Rattle.ground.proofs.Choices.{refused-kept}
 use Rattle.lane.specs.Bit.{bit}
 use Rattle.lane.proofs.Linear.{valid-same}
@@ -13,7 +13,7 @@ use Rattle.sums.specs.Words.{lane}
 use Rattle.block.specs.Block.{Fitting, ValidBlock, validBlock}
 use Rattle.block.proofs.ValidBlocks.{valid-is}
 use Rattle.layout.specs.declared.Layout.{Layout}
-use Rattle.layout.specs.Layout.{shapeOf, blocks}
+use Rattle.layout.specs.Layout.{shapeOf}
 use Rattle.layout.specs.Refusal.{imageRefusal}
 use Rattle.layout.proofs.Ladder.{image-layout, image-exact}
 use Rattle.store.specs.declared.Answer.{Answer}
@@ -21,7 +21,7 @@ use Rattle.store.specs.Fresh.{freshImage, freshAfter}
 use Rattle.store.specs.Image.{gathered}
 use Rattle.store.specs.Refusal.{dataRefusal}
 use Rattle.store.specs.Write.{Writes, writeAfter}
-use Rattle.store.proofs.After.{write-untouched, write-words}
+use Rattle.store.proofs.After.{write-words}
 use Rattle.store.proofs.FreshBlocks.{length-fresh, fresh-words, fresh-block}
 use Rattle.patrol.specs.declared.Formatted.{Formatted}
 use Rattle.patrol.specs.Format.{Formats}
