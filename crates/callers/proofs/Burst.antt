@@ -7,9 +7,9 @@ use Rattle.layout.specs.declared.Layout.{Layout}
 use Rattle.store.specs.Read.{readAnswer, readBuffer}
 use Rattle.store.specs.Visit.{visitAnswer, visitAfter}
 use Rattle.store.proofs.Promises.{reads, visits}
-use Rattle.demands.specs.Burst.{VisitsInOrder}
+use Rattle.demands.specs.Burst.{VisitsInOrder, OnTheWay}
 use Rattle.demands.proofs.Bursts.{bursts}
-use Rattle.callers.specs.Burst.{VisitCalls, CallerBursts}
+use Rattle.callers.specs.Burst.{VisitCalls, CallerOnTheWay, CallerBursts}
 use Rattle.callers.proofs.Answers.{read-said, visit-said}
 
 in-order : (layout : Layout) (order image after : List ℕ) → VisitCalls layout order image after → VisitsInOrder layout order image after
@@ -17,6 +17,15 @@ unfolding VisitCalls VisitsInOrder
 in-order layout [] image after v = v
 in-order layout (block ∷ rest) image after v =
     (visitAnswer image layout block, v .2, visits image layout block refl (v .3 .leaves), in-order layout rest (v .2) after (v .4))
+
+on-the-way : (layout : Layout) (image now : List ℕ) → CallerOnTheWay layout image now → OnTheWay layout image now
+on-the-way layout image now way =
+    record {
+      spoiled = way .spoiled;
+      struck = way .struck;
+      done = way .done;
+      visits = in-order layout (way .done) (way .spoiled) now (way .visits);
+    }
 
 first-word : {said words : List ℕ} → words ≡ said → getD words 0 0 ≡ getD said 0 0
 first-word e = ap (λ (l : List ℕ). getD l 0 0) e
@@ -26,19 +35,15 @@ caller-bursts =
     record {
       restored = λ {layout} {image} {spoiled} struck order after every v.
           bursts .restored layout image spoiled struck order after every (in-order layout order spoiled after v);
-      none-lost = λ {layout} {image} {spoiled} struck done between v {block} {number} {after} {verdict} c says.
-          bursts .none-lost layout image spoiled struck done between (in-order layout done spoiled between v) block
-          (visitAnswer between layout block)
-          (visitAfter between layout block)
-          (visits between layout block refl refl)
+      none-lost = λ {layout} {image} {now} way {block} c says.
+          bursts .none-lost layout image now (on-the-way layout image now way) block (visitAnswer now layout block) (visitAfter now layout block)
+          (visits now layout block refl refl)
           (sym (first-word (visit-said c .1)) ∙ says);
-      reads = λ {layout} {image} {spoiled} struck done between v {block} {number} {buffer} {kept} {filled} {verdict} c z.
+      reads = λ {layout} {image} {now} way {block} {number} {buffer} c z.
           let told =
-          bursts .reads layout image spoiled struck done between (in-order layout done spoiled between v) block buffer
-          (readAnswer between layout block buffer)
-          between
-          (readBuffer between layout block buffer)
-          (reads between layout block buffer refl refl)
+          bursts .reads layout image now (on-the-way layout image now way) block buffer (readAnswer now layout block buffer) now
+          (readBuffer now layout block buffer)
+          (reads now layout block buffer refl refl)
           (sym (read-said c .0) ∙ z) in (
             λ says. told .0 (sym (first-word (read-said c .1)) ∙ says),
             c .leaves ∙ told .1,

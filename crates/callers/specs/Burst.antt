@@ -17,6 +17,13 @@ VisitCalls layout [] image after = after ≡ image
 VisitCalls layout (block ∷ rest) image after =
     (number : ℕ) × (verdict between : List ℕ) × VisitCall image layout block number between verdict × VisitCalls layout rest between after
 
+-- a burst has struck, and some blocks have been visited since
+pub record CallerOnTheWay (layout : Layout) (image now : List ℕ) : Type 0 where
+  pub spoiled : List ℕ
+  pub struck : Struck layout image spoiled
+  pub done : List ℕ
+  pub visits : VisitCalls layout done spoiled now
+
 -- the first of a verdict's words is that of lost
 abbrev pub WordsLost : List ℕ → Type 0
 WordsLost verdict = getD verdict 0 0 ≡ 3
@@ -25,12 +32,10 @@ pub record CallerBursts : Type 0 where
   pub restored : {layout : Layout} {image spoiled : List ℕ} → Struck layout image spoiled
       → (order after : List ℕ) → EveryBlock layout order → VisitCalls layout order spoiled after
       → after ≡ image
-  pub none-lost : {layout : Layout} {image spoiled : List ℕ} → Struck layout image spoiled
-      → (done between : List ℕ) → VisitCalls layout done spoiled between
-      → {block number : ℕ} {after verdict : List ℕ} → VisitCall between layout block number after verdict
+  pub none-lost : {layout : Layout} {image now : List ℕ} → CallerOnTheWay layout image now
+      → {block number : ℕ} {after verdict : List ℕ} → VisitCall now layout block number after verdict
       → WordsLost verdict → ⊥
-  pub reads : {layout : Layout} {image spoiled : List ℕ} → Struck layout image spoiled
-      → (done between : List ℕ) → VisitCalls layout done spoiled between
-      → {block number : ℕ} {buffer kept filled verdict : List ℕ} → ReadCall between layout block buffer number kept filled verdict
+  pub reads : {layout : Layout} {image now : List ℕ} → CallerOnTheWay layout image now
+      → {block number : ℕ} {buffer kept filled verdict : List ℕ} → ReadCall now layout block buffer number kept filled verdict
       → number ≡ 0
       → (WordsLost verdict → ⊥) × (filled ≡ dataOf (shapeOf layout) (storedRows layout block image))

@@ -10,20 +10,21 @@ use Rattle.store.specs.Refusal.{dataRefusal}
 use Rattle.store.proofs.Promises.{reads}
 use Rattle.demands.specs.Steps.{read, turns}
 use Rattle.demands.specs.Demand3.{store}
-use Rattle.demands.specs.Burst.{AllValid, Within, Struck, VisitsInOrder, ReadsStruck, Bursts}
+use Rattle.demands.specs.Burst.{AllValid, Within, Struck, OnTheWay, ReadsStruck, Bursts}
 use Rattle.demands.proofs.AllValid.{fresh-valid, write-valid}
 use Rattle.demands.proofs.Demand3.{demand-3}
 use Rattle.demands.proofs.Numbers.{read-number}
 use Rattle.demands.proofs.Spoiled.{Spoiled, burst-spoils, order-leaves, order-restores, visit-kept, visit-accepted, read-kept}
 use Rattle.demands.proofs.Rounds.{round, turns-kept}
-use Rattle.demands.proofs.TooMany.{pair-lost, sparked-burst, spark-lost}
+use Rattle.demands.proofs.TooMany.{pair-lost, flipped-burst, flipped-lost}
 
 module _ (layout : Layout) (image spoiled : List ℕ) (struck : Struck layout image spoiled) where
   struck-spoils : Spoiled layout image (struck .valid) spoiled
   struck-spoils = burst-spoils layout image (struck .valid) (struck .n) (struck .start) spoiled (omega (arith, struck .few)) (struck .burst)
 
-  on-the-way : (done between : List ℕ) → VisitsInOrder layout done spoiled between → Spoiled layout image (struck .valid) between
-  on-the-way done between v = order-leaves layout image (struck .valid) done spoiled between struck-spoils v .0
+on-the-way : (layout : Layout) (image now : List ℕ) (way : OnTheWay layout image now) → Spoiled layout image (way .struck .valid) now
+on-the-way layout image now way =
+    order-leaves layout image (way .struck .valid) (way .done) (way .spoiled) now (struck-spoils layout image (way .spoiled) (way .struck)) (way .visits) .0
 
 -- ---- a read that demand 3 speaks of
 
@@ -71,20 +72,17 @@ bursts =
       write-valid = write-valid;
       restored = λ layout image spoiled struck order after every v.
           order-restores layout image (struck .valid) order spoiled after (struck-spoils layout image spoiled struck) every v;
-      none-lost = λ layout image spoiled struck done between v block.
-          visit-kept layout image (struck .valid) between (on-the-way layout image spoiled struck done between v) block;
-      accepted = λ layout image spoiled struck done between v block.
-          visit-accepted layout image (struck .valid) between (on-the-way layout image spoiled struck done between v) block;
-      reads = λ layout image spoiled struck done between v block.
-          read-kept layout image (struck .valid) between (on-the-way layout image spoiled struck done between v) block;
+      none-lost = λ layout image now way. visit-kept layout image (way .struck .valid) now (on-the-way layout image now way);
+      accepted = λ layout image now way. visit-accepted layout image (way .struck .valid) now (on-the-way layout image now way);
+      reads = λ layout image now way. read-kept layout image (way .struck .valid) now (on-the-way layout image now way);
       reads-right = read-right;
       round = λ image layout before spark since sparked enough. round image layout before spark since sparked (omega (arith, enough));
       turns-none-lost = turns-kept;
       too-many = λ layout image spoiled all block k i inside pair low.
           pair-lost layout image all block k i inside (omega (arith, pair)) low spoiled;
       tight = λ layout image all block k i inside pair low. (
-        sparked-burst layout image all block k i inside pair low (suc (layout .s)),
-        spark-lost layout image all block k i inside pair low,
+        flipped-burst layout image all block k i inside pair low (suc (layout .s)),
+        flipped-lost layout image all block k i inside pair low,
       );
       bytes-from-word = bytes-from-word;
       bytes = bytes;

@@ -29,7 +29,7 @@ use Rattle.store.specs.Visit.{Visits}
 use Rattle.store.proofs.Image.{length-rows, rows-row}
 use Rattle.store.proofs.StoredBlocks.{apart-stored}
 use Rattle.demands.specs.Demand2.{Meant, SaysLost}
-use Rattle.demands.specs.Burst.{AllValid, Burst, Changed, sparked}
+use Rattle.demands.specs.Burst.{AllValid, Burst, Changed, flippedIn}
 use Rattle.demands.proofs.Demand2.{demand-2}
 use Rattle.demands.proofs.Flips.{this-bit, other-word, count-pair}
 use Rattle.demands.proofs.Spoiled.{burst-near, burst-flip}
@@ -122,35 +122,35 @@ module _ (layout : Layout) (image : List ℕ) (all : AllValid layout image) (blo
 
   -- ---- one bit flipped in each of n words
 
-  pub sparked-burst : (n : ℕ) → Burst n start image (sparked i n start image)
-  unfolding sparked
-  sparked-burst zero = record { size = refl; words = all .words; elsewhere = λ at ne. refl }
-  sparked-burst (suc n) =
-      let x = sparked i n start image in
-      let b = sparked-burst n in
+  pub flipped-burst : (n : ℕ) → Burst n start image (flippedIn i n start image)
+  unfolding flippedIn
+  flipped-burst zero = record { size = refl; words = all .words; elsewhere = λ at ne. refl }
+  flipped-burst (suc n) =
+      let x = flippedIn i n start image in
+      let b = flipped-burst n in
       burst-flip (suc n) start image x (start + n) i (omega arith, omega arith)
       (record { size = b .size; words = b .words; elsewhere = λ at ne. b .elsewhere at (λ w. ne (w .0, omega (arith, w .1))) })
 
-  sparked-changed : (n j : ℕ) → j < n → start + j < length image → Changed i (start + j) image (sparked i n start image)
-  unfolding sparked
-  sparked-changed zero j h l = absurd (omega arith)
-  sparked-changed (suc n) j h l =
-      let x = sparked i n start image in
-      let b = sparked-burst n in
+  flipped-changed : (n j : ℕ) → j < n → start + j < length image → Changed i (start + j) image (flippedIn i n start image)
+  unfolding flippedIn
+  flipped-changed zero j h l = absurd (omega arith)
+  flipped-changed (suc n) j h l =
+      let x = flippedIn i n start image in
+      let b = flipped-burst n in
       by-cases (ℕ-discrete j n)
       (λ e.
       rw e
       (this-bit (start + n) i x low (rw (b .size, ← e) l)
       ∙ ap (λ (w : ℕ). not (bit i w)) (b .elsewhere (start + n) (λ w. omega (arith, w .1)))))
-      (λ ne. ap (bit i) (other-word (start + n) i x (start + j) (λ e. ne (omega arith))) ∙ sparked-changed n j (omega arith) l)
+      (λ ne. ap (bit i) (other-word (start + n) i x (start + j) (λ e. ne (omega arith))) ∙ flipped-changed n j (omega arith) l)
 
-  pub spark-lost : (answer : Answer) (after : List ℕ) → Visits (sparked i (suc (layout .s)) start image) layout block answer after → SaysLost answer
-  spark-lost answer after v =
+  pub flipped-lost : (answer : Answer) (after : List ℕ) → Visits (flippedIn i (suc (layout .s)) start image) layout block answer after → SaysLost answer
+  flipped-lost answer after v =
       let s = layout .s in
-      let first = sparked-changed (suc s) 0 (omega arith) (omega (arith, first-inside)) in
-      pair-lost (sparked i (suc s) start image) (sparked-burst (suc s))
-      (subst (λ (at : ℕ). Changed i at image (sparked i (suc s) start image)) (add-zero start) first)
-      (sparked-changed (suc s) s (omega arith) last-inside)
+      let first = flipped-changed (suc s) 0 (omega arith) (omega (arith, first-inside)) in
+      pair-lost (flippedIn i (suc s) start image) (flipped-burst (suc s))
+      (subst (λ (at : ℕ). Changed i at image (flippedIn i (suc s) start image)) (add-zero start) first)
+      (flipped-changed (suc s) s (omega arith) last-inside)
       answer
       after
       v .0

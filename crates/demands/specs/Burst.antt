@@ -69,6 +69,13 @@ Comes block (first ∷ rest) = (first ≡ block) ⊎ Comes block rest
 abbrev pub EveryBlock : Layout → List ℕ → Type 0
 EveryBlock layout order = (block : ℕ) → block < blocks layout → Comes block order
 
+-- a burst has struck, and some blocks have been visited since: none of them yet, or all, or some twice
+pub record OnTheWay (layout : Layout) (image now : List ℕ) : Type 0 where
+  pub spoiled : List ℕ
+  pub struck : Struck layout image spoiled
+  pub done : List ℕ
+  pub visits : VisitsInOrder layout done spoiled now
+
 -- every accepted read of demand 3, had a burst come straight before it
 abbrev pub ReadsStruck : List ℕ → Layout → Type 0
 ReadsStruck image layout =
@@ -90,9 +97,9 @@ abbrev pub Changed : (i at : ℕ) → (image spoiled : List ℕ) → Type 0
 Changed i at image spoiled = bit i (getD spoiled at 0) ≡ not (bit i (getD image at 0))
 
 -- bit i of each of n neighbouring words is flipped
-unfoldable pub sparked : (i n start : ℕ) → List ℕ → List ℕ
-sparked i zero start image = image
-sparked i (suc n) start image = flipped (start + n) i (sparked i n start image)
+unfoldable pub flippedIn : (i n start : ℕ) → List ℕ → List ℕ
+flippedIn i zero start image = image
+flippedIn i (suc n) start image = flipped (start + n) i (flippedIn i n start image)
 
 -- ---- the steps of a store
 
@@ -136,20 +143,17 @@ pub record Bursts : Type 0 where
   pub restored : (layout : Layout) (image spoiled : List ℕ) → Struck layout image spoiled
       → (order after : List ℕ) → EveryBlock layout order → VisitsInOrder layout order spoiled after
       → after ≡ image
-  -- no visit says lost, neither on the way nor after, whatever blocks were visited before it; and every visit of a block is accepted
-  pub none-lost : (layout : Layout) (image spoiled : List ℕ) → Struck layout image spoiled
-      → (done between : List ℕ) → VisitsInOrder layout done spoiled between
-      → (block : ℕ) (answer : Answer) (after : List ℕ) → Visits between layout block answer after
+  -- no visit says lost, neither on the way nor after; and every visit of a block is accepted
+  pub none-lost : (layout : Layout) (image now : List ℕ) → OnTheWay layout image now
+      → (block : ℕ) (answer : Answer) (after : List ℕ) → Visits now layout block answer after
       → SaysLost answer → ⊥
-  pub accepted : (layout : Layout) (image spoiled : List ℕ) → Struck layout image spoiled
-      → (done between : List ℕ) → VisitsInOrder layout done spoiled between
-      → (block : ℕ) (answer : Answer) (after : List ℕ) → Visits between layout block answer after
+  pub accepted : (layout : Layout) (image now : List ℕ) → OnTheWay layout image now
+      → (block : ℕ) (answer : Answer) (after : List ℕ) → Visits now layout block answer after
       → block < blocks layout
       → answerNumber answer ≡ 0
-  -- a read gives the data that the block held, straight after the burst, where nothing is done yet, and on the way
-  pub reads : (layout : Layout) (image spoiled : List ℕ) → Struck layout image spoiled
-      → (done between : List ℕ) → VisitsInOrder layout done spoiled between
-      → (block : ℕ) (buffer : List ℕ) (answer : Answer) (kept filled : List ℕ) → Reads between layout block buffer answer kept filled
+  -- a read gives the data that the block held, straight after the burst and on the way
+  pub reads : (layout : Layout) (image now : List ℕ) → OnTheWay layout image now
+      → (block : ℕ) (buffer : List ℕ) (answer : Answer) (kept filled : List ℕ) → Reads now layout block buffer answer kept filled
       → answerNumber answer ≡ 0
       → (SaysLost answer → ⊥) × (filled ≡ dataOf (shapeOf layout) (storedRows layout block image))
   -- so a read that demand 3 speaks of gives the data last written, or zeros, though a burst came straight before it
@@ -175,8 +179,8 @@ pub record Bursts : Type 0 where
   -- one bit flipped in each of them is such a burst: for both shapes, every s, every block and every row but its last
   pub tight : (layout : Layout) (image : List ℕ) → AllValid layout image
       → (block k i : ℕ) → block < blocks layout → RowsPair layout k → i < 32
-      → Burst (suc (layout .s)) (index layout block (suc k)) image (sparked i (suc (layout .s)) (index layout block (suc k)) image)
-      × ((answer : Answer) (after : List ℕ) → Visits (sparked i (suc (layout .s)) (index layout block (suc k)) image) layout block answer after
+      → Burst (suc (layout .s)) (index layout block (suc k)) image (flippedIn i (suc (layout .s)) (index layout block (suc k)) image)
+      × ((answer : Answer) (after : List ℕ) → Visits (flippedIn i (suc (layout .s)) (index layout block (suc k)) image) layout block answer after
       → SaysLost answer)
   -- in bytes, four to a word: 4·s bytes from a word's start on are at most s words, and so are 4·s − 3 bytes from anywhere
   pub bytes-from-word : (s word n at : ℕ) → n ≤ 4 * s → Within n (4 * word) at → Within s word (at / 4)
