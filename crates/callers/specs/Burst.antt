@@ -1,15 +1,18 @@
 -- What a caller in C is told of a burst in at most s neighbouring words of a valid image: visits of every block, in any order, leave the image as it
--- was, no visit's words say lost, and a read gives what the block held. Assumes nothing.
-use Prim.Native.Nat.{ℕ}
+-- was, no visit's words say lost, and a read gives what the block held; and so of N turns. Assumes nothing.
+use Prim.Native.Nat.{ℕ, suc, _≤_, _<_}
 use mathlib.Core.Path.{_≡_}
-use mathlib.Core.List.{List, [], _∷_}
+use mathlib.Core.List.{List, [], _∷_, _++_}
 use lib.ListN.{getD}
 use Rattle.layout.specs.declared.Layout.{Layout}
-use Rattle.layout.specs.Layout.{shapeOf}
+use Rattle.layout.specs.Layout.{shapeOf, blocks}
 use Rattle.block.specs.Block.{dataOf}
 use Rattle.store.specs.Image.{storedRows}
-use Rattle.foldgrebe.specs.Calls.{ReadCall, VisitCall}
-use Rattle.demands.specs.Burst.{Struck, EveryBlock}
+use Rattle.words.specs.Answers.{visitWidth}
+use Rattle.foldgrebe.specs.Calls.{ReadCall, VisitCall, TurnCall}
+use Rattle.demands.specs.Steps.{Step, turns}
+use Rattle.demands.specs.Burst.{Struck, EveryBlock, Sparked}
+use Rattle.callers.specs.Handing.{Kept, RanFrom}
 
 -- the blocks of a list are visited one after the other
 unfoldable pub VisitCalls : Layout → List ℕ → (image after : List ℕ) → Type 0
@@ -35,7 +38,20 @@ pub record CallerBursts : Type 0 where
   pub none-lost : {layout : Layout} {image now : List ℕ} → CallerOnTheWay layout image now
       → {block number : ℕ} {after verdict : List ℕ} → VisitCall now layout block number after verdict
       → WordsLost verdict → ⊥
+  pub accepted : {layout : Layout} {image now : List ℕ} → CallerOnTheWay layout image now
+      → {block number : ℕ} {after verdict : List ℕ} → VisitCall now layout block number after verdict
+      → block < blocks layout
+      → number ≡ 0
   pub reads : {layout : Layout} {image now : List ℕ} → CallerOnTheWay layout image now
       → {block number : ℕ} {buffer kept filled verdict : List ℕ} → ReadCall now layout block buffer number kept filled verdict
       → number ≡ 0
       → (WordsLost verdict → ⊥) × (filled ≡ dataOf (shapeOf layout) (storedRows layout block image))
+  -- N turns after a spark, the record's words handed from call to call, the image is what it was; and no turn's report says lost
+  pub round : (image : List ℕ) (layout : Layout) (before spark since : List Step) → Sparked image layout before spark since
+      → blocks layout ≤ turns since
+      → (earlier now : Kept) → RanFrom image layout before earlier → RanFrom image layout (before ++ spark ++ since) now
+      → now .image ≡ earlier .image
+  pub turns-none-lost : (image : List ℕ) (layout : Layout) (before spark since : List Step) → Sparked image layout before spark since
+      → (now : Kept) → RanFrom image layout (before ++ spark ++ since) now
+      → {number : ℕ} {words after report : List ℕ} → TurnCall (now .words) (now .image) number words after report
+      → (getD report 1 0 ≡ 3 → ⊥) × (getD report (suc visitWidth) 0 ≡ 3 → ⊥)

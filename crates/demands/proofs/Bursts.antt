@@ -1,62 +1,106 @@
 -- A burst of at most s neighbouring words is mended whole, and one of s + 1 words can lose a block. Assumes nothing.
-use Prim.Native.Nat.{ℕ, suc, _+_, _-_, _*_, _/_, _≤_}
+use Prim.Native.Nat.{ℕ, suc, _+_, _-_, _*_, _/_, _≤_, _<_}
 use mathlib.Core.Path.{_≡_, refl, sym, ap, subst, _∙_}
 use mathlib.Core.List.{List}
+use mathlib.Core.Logic.{_⊎_, inl}
+use native.Mathlib.Nat.{zero-mul, zero-div, zero-mod, one-le-mul}
 use native.Mathlib.Omega.{arith}
 use lib.ListN.{length}
+use Rattle.shape.proofs.Sizes.{rows-least}
 use Rattle.layout.specs.declared.Layout.{Layout}
+use Rattle.layout.specs.Layout.{shapeOf, rowsOf, blocks, index}
+use Rattle.layout.proofs.Ladder.{geometry, image-layout}
 use Rattle.store.specs.Read.{Reads, readAnswer, readBuffer}
 use Rattle.store.specs.Refusal.{dataRefusal}
 use Rattle.store.proofs.Promises.{reads}
+use Rattle.patrol.specs.declared.Formatted.{Formatted}
+use Rattle.patrol.specs.Format.{Formats}
 use Rattle.demands.specs.Steps.{read, turns}
 use Rattle.demands.specs.Demand3.{store}
-use Rattle.demands.specs.Burst.{AllValid, Within, Struck, OnTheWay, ReadsStruck, Bursts}
+use Rattle.demands.specs.Burst.{Within, wordsFrom, Struck, Comes, OnTheWay, ReadsStruck, flippedIn, Loses, Bursts}
 use Rattle.demands.proofs.AllValid.{fresh-valid, write-valid}
 use Rattle.demands.proofs.Demand3.{demand-3}
 use Rattle.demands.proofs.Numbers.{read-number}
-use Rattle.demands.proofs.Spoiled.{Spoiled, burst-spoils, order-leaves, order-restores, visit-kept, visit-accepted, read-kept}
-use Rattle.demands.proofs.Rounds.{round, turns-kept}
-use Rattle.demands.proofs.TooMany.{pair-lost, flipped-burst, flipped-lost}
+use Rattle.demands.proofs.NearWas.{
+  burst-none,
+  NearWas,
+  AsWas,
+  burst-leaves,
+  border-leaves,
+  order-leaves,
+  order-restores,
+  visit-kept,
+  visit-accepted,
+  read-kept,
+}
+use Rattle.demands.proofs.Rounds.{round, turns-kept, round-read}
+use Rattle.demands.proofs.TooMany.{burst-lost, flipped-burst, flipped-lost}
 
-module _ (layout : Layout) (image spoiled : List ℕ) (struck : Struck layout image spoiled) where
-  struck-spoils : Spoiled layout image (struck .valid) spoiled
-  struck-spoils = burst-spoils layout image (struck .valid) (struck .n) (struck .start) spoiled (omega (arith, struck .few)) (struck .burst)
+struck-near : (layout : Layout) (image spoiled : List ℕ) (struck : Struck layout image spoiled) → NearWas layout image (struck .valid) spoiled
+struck-near layout image spoiled struck =
+    burst-leaves layout image (struck .valid) (struck .reach) spoiled (struck .short) (struck .burst)
 
-on-the-way : (layout : Layout) (image now : List ℕ) (way : OnTheWay layout image now) → Spoiled layout image (way .struck .valid) now
-on-the-way layout image now way =
-    order-leaves layout image (way .struck .valid) (way .done) (way .spoiled) now (struck-spoils layout image (way .spoiled) (way .struck)) (way .visits) .0
+-- what is left on the way
+way-left : (layout : Layout) (image now : List ℕ) (way : OnTheWay layout image now)
+    → NearWas layout image (way .struck .valid) now
+    × ((block : ℕ) → block < blocks layout → Comes block (way .done) ⊎ AsWas layout image (way .struck .valid) block (way .spoiled)
+    → AsWas layout image (way .struck .valid) block now)
+way-left layout image now way =
+    order-leaves layout image (way .struck .valid) (way .done) (way .spoiled) now (struck-near layout image (way .spoiled) (way .struck)) (way .visits)
 
 -- ---- a read that demand 3 speaks of
 
--- nothing has struck
-none-struck : (layout : Layout) (image : List ℕ) (all : AllValid layout image) → Spoiled layout image all image
-none-struck layout image all =
-    burst-spoils layout image all 0 0 image (omega arith) (record { size = refl; words = all .words; elsewhere = λ at ne. refl })
-
 read-right : (image : List ℕ) (layout : Layout) → ReadsStruck image layout
-read-right image layout steps one words spaced none before rest named block buffer e spoiled struck answer kept left p z =
-    let now = store image layout before .image in
-    let passed : dataRefusal (length now) named block (length buffer) ≡ 0 =
-    ap (λ (n : ℕ). dataRefusal n named block (length buffer)) (sym (struck .burst .size)) ∙ sym (p .answers .number) ∙ z in
-    let number = read-number now named block buffer ∙ passed in
+read-right image layout steps one words spaced none before rest named block buffer e now way answer kept left p z =
+    let was = store image layout before .image in
+    let all = way .struck .valid in
+    let near = way-left layout was now way .0 in
+    let passed : dataRefusal (length was) named block (length buffer) ≡ 0 =
+    ap (λ (n : ℕ). dataRefusal n named block (length buffer)) (sym (near .size)) ∙ sym (p .answers .number) ∙ z in
+    let number = read-number was named block buffer ∙ passed in
     let ours : named ≡ layout = one before rest (read named block buffer) e number in
-    let said = readAnswer now named block buffer in
-    let filled = readBuffer now named block buffer in
-    let unspoiled = reads now named block buffer {answer = said} {after = filled} refl refl in
-    let right = demand-3 .reads-right image layout steps one words spaced none before rest named block buffer e said now filled unspoiled number in
+    let said = readAnswer was named block buffer in
+    let filled = readBuffer was named block buffer in
+    let unspoiled = reads was named block buffer {answer = said} {after = filled} refl refl in
+    let right = demand-3 .reads-right image layout steps one words spaced none before rest named block buffer e said was filled unspoiled number in
     let quiet =
-    read-kept layout now (struck .valid) now (none-struck layout now (struck .valid)) block buffer said now filled
-    (subst (λ (l : Layout). Reads now l block buffer said now filled) ours unspoiled)
+    read-kept layout was all was (burst-leaves layout was all (wordsFrom 0 0) was (omega arith) (burst-none (wordsFrom 0 0) was (all .words))) block buffer said was
+    filled
+    (subst (λ (l : Layout). Reads was l block buffer said was filled) ours unspoiled)
     number in
     let got =
-    read-kept layout now (struck .valid) spoiled (struck-spoils layout now spoiled struck) block buffer answer kept left
-    (subst (λ (l : Layout). Reads spoiled l block buffer answer kept left) ours p)
-    z in (got .0, got .1 ∙ sym (quiet .1) ∙ right .1)
+    read-kept layout was all now near block buffer answer kept left (subst (λ (l : Layout). Reads now l block buffer answer kept left) ours p) z in (
+      got .0,
+      got .1 ∙ sym (quiet .1) ∙ right .1,
+    )
+
+-- ---- one more
+
+index-first : (layout : Layout) → index layout 0 1 ≡ 0
+index-first layout =
+    let s = layout .s in
+    omega (
+      arith,
+      ap (λ (n : ℕ). n * rowsOf layout * s) (zero-div s),
+      zero-mul (rowsOf layout),
+      ap (λ (n : ℕ). n * s) (zero-mul (rowsOf layout)),
+      zero-mul s,
+      zero-mod s,
+    )
+
+fresh-lost : (image : List ℕ) (layout : Layout) (answer : Formatted) (after : List ℕ) → Formats image layout answer after → answer .number ≡ 0
+    → Loses layout 0 (flippedIn 0 (suc (layout .s)) 0 after)
+fresh-lost image layout answer after p z =
+    let g = geometry layout (image-layout layout (length image) (sym (p .number) ∙ z)) in
+    subst (λ (at : ℕ). Loses layout 0 (flippedIn 0 (suc (layout .s)) at after)) (index-first layout)
+    (flipped-lost layout after (fresh-valid image layout answer after p z) 0 0 0 (one-le-mul (g .g-first) (g .s-first))
+    (omega (arith, rows-least (shapeOf layout)))
+    (omega arith))
 
 -- ---- bytes
 
-bytes : (s start n at : ℕ) → n + 3 ≤ 4 * s → Within n start at → Within s (start / 4) (at / 4)
-bytes s start n at few w = (omega (arith, w .0), omega (arith, w .1))
+bytes-from-any : (s start n at : ℕ) → n + 3 ≤ 4 * s → Within n start at → Within s (start / 4) (at / 4)
+bytes-from-any s start n at few w = (omega (arith, w .0), omega (arith, w .1))
 
 bytes-from-word : (s word n at : ℕ) → n ≤ 4 * s → Within n (4 * word) at → Within s word (at / 4)
 bytes-from-word s word n at few w = (omega (arith, w .0), omega (arith, w .1))
@@ -71,20 +115,25 @@ bursts =
       fresh-valid = fresh-valid;
       write-valid = write-valid;
       restored = λ layout image spoiled struck order after every v.
-          order-restores layout image (struck .valid) order spoiled after (struck-spoils layout image spoiled struck) every v;
-      none-lost = λ layout image now way. visit-kept layout image (way .struck .valid) now (on-the-way layout image now way);
-      accepted = λ layout image now way. visit-accepted layout image (way .struck .valid) now (on-the-way layout image now way);
-      reads = λ layout image now way. read-kept layout image (way .struck .valid) now (on-the-way layout image now way);
+          order-restores layout image (struck .valid) order spoiled after (struck-near layout image spoiled struck) every v;
+      visited = λ layout image now way block inside comes. way-left layout image now way .1 block inside (inl comes);
+      none-lost = λ layout image now way. visit-kept layout image (way .struck .valid) now (way-left layout image now way .0);
+      accepted = λ layout image now way. visit-accepted layout image (way .struck .valid) now (way-left layout image now way .0);
+      reads = λ layout image now way. read-kept layout image (way .struck .valid) now (way-left layout image now way .0);
       reads-right = read-right;
       round = λ image layout before spark since sparked enough. round image layout before spark since sparked (omega (arith, enough));
       turns-none-lost = turns-kept;
+      round-reads = round-read;
       too-many = λ layout image spoiled all block k i inside pair low.
-          pair-lost layout image all block k i inside (omega (arith, pair)) low spoiled;
+          burst-lost layout image all block k i inside (omega (arith, pair)) low spoiled;
       tight = λ layout image all block k i inside pair low. (
         flipped-burst layout image all block k i inside pair low (suc (layout .s)),
         flipped-lost layout image all block k i inside pair low,
       );
+      tight-fresh = fresh-lost;
+      border = λ layout image spoiled all block burst order after every v.
+          order-restores layout image all order spoiled after (border-leaves layout image all block spoiled burst) every v;
       bytes-from-word = bytes-from-word;
-      bytes = bytes;
+      bytes-from-any = bytes-from-any;
       bytes-more = bytes-more;
     }

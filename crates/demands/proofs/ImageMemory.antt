@@ -10,6 +10,7 @@ use lib.ListN.{length, replicate}
 use Rattle.lane.specs.Bit.{_⊕_}
 use Rattle.lane.specs.Lane.{diff, apart}
 use Rattle.lane.proofs.Distance.{empty}
+use Rattle.lane.proofs.Few.{count-single}
 use Rattle.lane.proofs.Linear.{count-same}
 use Rattle.shape.specs.declared.Shape.{Shape}
 use Rattle.shape.specs.Shape.{before, rows, words}
@@ -33,7 +34,7 @@ use Rattle.demands.specs.Steps.{flipped}
 use Rattle.demands.proofs.Index.{blockAt, rowsPast, only-at}
 use Rattle.demands.proofs.SameBlocks.{same-apart, same-data}
 use Rattle.store.proofs.FreshBlocks.{length-fresh, fresh-words, fresh-block}
-use Rattle.demands.proofs.Flips.{length-flipped, flipped-words, other-bit, count-single}
+use Rattle.demands.proofs.Flips.{length-flipped, flipped-words, other-bit}
 
 -- two pairs of numbers are the same or not
 pub pair? : (u v : ℕ × ℕ) → Dec (u ≡ v)

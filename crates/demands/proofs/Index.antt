@@ -7,7 +7,6 @@ use lib.Arith.{digits-lt, digits-div, digits-mod}
 use Rattle.layout.specs.declared.Layout.{Layout}
 use Rattle.layout.specs.Layout.{rowsOf, blocks, index}
 use Rattle.layout.proofs.Index.{stride, one-to-one}
-use Rattle.demands.specs.Burst.{Within}
 
 module _ (layout : Layout) where
   -- the block that an index lies in, and how many rows stand there before it
@@ -49,13 +48,11 @@ module _ (layout : Layout) where
         div-lt-iff-lt-mul first .1 (omega (arith, mul-right-comm (layout .g) (rowsOf layout) (layout .s), mul-comm (rowsOf layout) (blocks layout))) in
         digits-lt (div-lt-iff-lt-mul (omega arith) .1 lines) (mod-lt at first)
 
-  -- the rows of a block lie s apart, so of s neighbouring words at most one is of it
-  pub row-once : (n start block j k : ℕ) → n ≤ layout .s → j < k → Within n start (index layout block (suc j)) → Within n start (index layout block (suc k)) → ⊥
-  row-once n start block j k few l a b =
+  -- the rows of a block lie s apart
+  pub rows-apart : (block j k : ℕ) → j < k → index layout block (suc j) + layout .s ≤ index layout block (suc k)
+  rows-apart block j k l =
       omega (
         arith,
-        a .0,
-        b .1,
         stride (rowsOf layout) (layout .s) block j,
         stride (rowsOf layout) (layout .s) block k,
         suc-mul j (layout .s),

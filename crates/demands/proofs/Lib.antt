@@ -23,7 +23,7 @@ pub mod Written
 pub mod Reading
 pub mod Demand3
 pub mod AllValid
-pub mod Spoiled
+pub mod NearWas
 pub mod TooMany
 pub mod Rounds
 pub mod Bursts

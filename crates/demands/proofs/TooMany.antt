@@ -12,27 +12,28 @@ use lib.Seq.{getD-set-same, getD-set-other}
 use Rattle.lane.specs.Bit.{bit, _⊕_}
 use Rattle.lane.specs.Lane.{diff, apart}
 use Rattle.lane.proofs.Distance.{light, empty, ⊕-same, apart-between}
+use Rattle.lane.proofs.Few.{count-two}
 use Rattle.lane.proofs.Linear.{valid-diff}
 use Rattle.shape.specs.Shape.{before, rows}
 use Rattle.shape.proofs.Sizes.{rows-fit}
 use Rattle.stored.specs.Stored.{complemented}
 use Rattle.sums.specs.Words.{lane}
+use Rattle.block.specs.Block.{Fitting}
 use Rattle.layout.specs.declared.Layout.{Layout}
 use Rattle.layout.specs.Layout.{shapeOf, rowsOf, blocks, index}
 use Rattle.layout.specs.Refusal.{blockRefusal}
 use Rattle.layout.proofs.Index.{stride}
 use Rattle.layout.proofs.Ladder.{block-accepted}
 use Rattle.layout.proofs.RowsInside.{interleaved, row-inside}
-use Rattle.store.specs.declared.Answer.{Answer}
 use Rattle.store.specs.Image.{storedRows}
-use Rattle.store.specs.Visit.{Visits}
 use Rattle.store.proofs.Image.{length-rows, rows-row}
 use Rattle.store.proofs.StoredBlocks.{apart-stored}
-use Rattle.demands.specs.Demand2.{Meant, SaysLost}
-use Rattle.demands.specs.Burst.{AllValid, Burst, Changed, flippedIn}
+use Rattle.demands.specs.Demand2.{Meant}
+use Rattle.demands.specs.Burst.{AllValid, Within, Reach, wordsFrom, bytesFrom, Hit, Burst, OneMore, Changed, flippedIn, Loses}
 use Rattle.demands.proofs.Demand2.{demand-2}
-use Rattle.demands.proofs.Flips.{this-bit, other-word, count-pair}
-use Rattle.demands.proofs.Spoiled.{burst-near, burst-flip}
+use Rattle.demands.proofs.Flips.{this-bit, other-bit}
+use Rattle.demands.proofs.Index.{rows-apart}
+use Rattle.demands.proofs.NearWas.{lone-near, within?, burst-flip, burst-none}
 
 ⊕-not : (a b : Bool) → a ≡ not b → a ⊕ b ≡ true
 ⊕-not a b e = ap (λ (x : Bool). x ⊕ b) e ∙ go b
@@ -56,7 +57,8 @@ module _ (layout : Layout) (image : List ℕ) (all : AllValid layout image) (blo
   last-inside : start + layout .s < length image
   last-inside = rw (← next-row) (row-inside layout (length image) (all .fits) block (suc (suc k)) inside (omega arith) high)
 
-  module _ (spoiled : List ℕ) (burst : Burst (suc (layout .s)) start image spoiled)
+  module _ (spoiled : List ℕ) (size : length spoiled ≡ length image) (small : Fitting spoiled)
+      (elsewhere : (at : ℕ) → (Within (suc (layout .s)) start at → ⊥) → bit i (getD spoiled at 0) ≡ bit i (getD image at 0))
       (first : Changed i start image spoiled)
       (last : Changed i (start + layout .s) image spoiled) where
     abbrev m : ℕ
@@ -68,7 +70,7 @@ module _ (layout : Layout) (image : List ℕ) (all : AllValid layout image) (blo
     abbrev was : List ℕ
     was = storedRows layout block image
 
-    -- the spoiled image with the first word as it was: s words of it are spoiled
+    -- the spoiled image with the first word as it was
     abbrev mid : List ℕ
     mid = set spoiled start (getD image start 0)
 
@@ -76,21 +78,37 @@ module _ (layout : Layout) (image : List ℕ) (all : AllValid layout image) (blo
     mid-word at ne = getD-set-other spoiled start at (getD image start 0) 0 ne
 
     mid-first : getD mid start 0 ≡ getD image start 0
-    mid-first = getD-set-same spoiled start (getD image start 0) 0 (rw (burst .size) first-inside)
+    mid-first = getD-set-same spoiled start (getD image start 0) 0 (rw size first-inside)
+
+    -- it differs from the spoiled one in one word, and from the one that was in s others: so in one row of the block each
+    first-off : apart m (lane i (storedRows layout block mid)) (lane i now) ≤ 1
+    first-off =
+        lone-near layout spoiled mid block i
+        (λ j l less h u v.
+        let at : (r : ℕ) → (bit i (getD mid (index layout block (suc r)) 0) ≡ bit i (getD spoiled (index layout block (suc r)) 0) → ⊥)
+        → index layout block (suc r) ≡ start =
+        λ r off. by-cases (ℕ-discrete (index layout block (suc r)) start) (λ e. e) (λ ne. absurd (off (ap (bit i) (mid-word (index layout block (suc r)) ne)))) in
+        omega (arith, at j u, at l v, rows-apart layout block j l less, interleaved layout (length image) (all .fits)))
+
+    others-off : apart m (lane i (storedRows layout block mid)) (lane i was) ≤ 1
+    others-off =
+        lone-near layout image mid block i
+        (λ j l less h u v.
+        let at : (r : ℕ) → (bit i (getD mid (index layout block (suc r)) 0) ≡ bit i (getD image (index layout block (suc r)) 0) → ⊥)
+        → Within (layout .s) (suc start) (index layout block (suc r)) =
+        λ r off. after-first (index layout block (suc r)) off in
+        omega (arith, at j u .0, at l v .1, rows-apart layout block j l less))
+      where
+        after-first : (at : ℕ) → (bit i (getD mid at 0) ≡ bit i (getD image at 0) → ⊥) → Within (layout .s) (suc start) at
+        after-first at off =
+            by-cases (ℕ-discrete at start) (λ e. absurd (off (ap (bit i) (rw e mid-first))))
+            (λ ne.
+            by-cases (within? (suc (layout .s)) start at) (λ w. (omega (arith, w .0, ne), omega (arith, w .1)))
+            (λ out. absurd (off (ap (bit i) (mid-word at ne) ∙ elsewhere at out))))
 
     -- so a lane is changed in at most two bits
     two-off : apart m (lane i now) (lane i was) ≤ 2
-    two-off =
-        let s-first = interleaved layout (length image) (all .fits) in
-        let one = burst-near layout 1 start spoiled mid s-first (λ at ne. mid-word at (λ e. ne (omega arith, omega arith))) block i in
-        let others =
-        burst-near layout (layout .s) (suc start) image mid (omega arith)
-        (λ at ne.
-        by-cases (ℕ-discrete at start) (λ e. rw e mid-first)
-        (λ nq. mid-word at nq ∙ burst .elsewhere at (λ w. ne (omega (arith, w .0, nq), omega (arith, w .1)))))
-        block
-        i in
-        omega (arith, one, others, apart-between m (lane i (storedRows layout block mid)) (lane i now) (lane i was))
+    two-off = omega (arith, first-off, others-off, apart-between m (lane i (storedRows layout block mid)) (lane i now) (lane i was))
 
     -- and in two
     changed : (j : ℕ) → j < rowsOf layout → Changed i (index layout block (suc j)) image spoiled → lane i now (suc j) ≡ not (lane i was (suc j))
@@ -109,27 +127,37 @@ module _ (layout : Layout) (image : List ℕ) (all : AllValid layout image) (blo
         λ j h. ⊕-same _ _ (empty (rowsOf layout) (diff (lane i was) (lane i other)) (sym stored ∙ same) j h) in
         let off : (j : ℕ) → j < rowsOf layout → Changed i (index layout block (suc j)) image spoiled → diff (lane i now) (lane i other) (suc j) ≡ true =
         λ j h c. ⊕-not _ _ (changed j h c ∙ ap not (as-was j h)) in
-        count-pair (rowsOf layout) (diff (lane i now) (lane i other)) k (suc k) (omega arith) high
+        count-two (rowsOf layout) (diff (lane i now) (lane i other)) k (suc k) (omega arith) high
         (off k (omega arith) first)
         (off (suc k) high (rw next-row last))
         near
 
-    pub pair-lost : (answer : Answer) (after : List ℕ) → Visits spoiled layout block answer after → SaysLost answer × (after ≡ spoiled)
+    pair-lost : Loses layout block spoiled
     pair-lost answer after v =
-        let passed : blockRefusal (length spoiled) layout block ≡ 0 = rw (burst .size) (block-accepted layout (length image) block (all .fits) inside) in
-        let visiting = demand-2 .visit spoiled layout block answer after (burst .words) v (v .answers .number ∙ passed) in
+        let passed : blockRefusal (length spoiled) layout block ≡ 0 = rw size (block-accepted layout (length image) block (all .fits) inside) in
+        let visiting = demand-2 .visit spoiled layout block answer after small v (v .answers .number ∙ passed) in
         let says = visiting .mends .lost .1 none-meant in (says, visiting .lost-unaltered says)
+
+  -- one more than short, it hits no other word of the lane
+  one-more : (reach : Reach) → OneMore layout start i reach → (at : ℕ) → Hit reach at i → Within (suc (layout .s)) start at
+  one-more (wordsFrom n from) more at hit = (omega (arith, more .1, hit .0), omega (arith, more .0, more .1, hit .1))
+  one-more (bytesFrom place n from) more at hit = (omega (arith, more .1, hit .0), omega (arith, more .0, more .1, hit .1))
+
+  pub burst-lost : (spoiled : List ℕ) (reach : Reach) → OneMore layout start i reach → Burst reach image spoiled → Changed i start image spoiled
+      → Changed i (start + layout .s) image spoiled
+      → Loses layout block spoiled
+  burst-lost spoiled reach more burst =
+      pair-lost spoiled (burst .size) (burst .words) (λ at out. burst .elsewhere at i (λ hit. out (one-more reach more at hit)))
 
   -- ---- one bit flipped in each of n words
 
-  pub flipped-burst : (n : ℕ) → Burst n start image (flippedIn i n start image)
+  pub flipped-burst : (n : ℕ) → Burst (wordsFrom n start) image (flippedIn i n start image)
   unfolding flippedIn
-  flipped-burst zero = record { size = refl; words = all .words; elsewhere = λ at ne. refl }
+  flipped-burst zero = burst-none (wordsFrom 0 start) image (all .words)
   flipped-burst (suc n) =
-      let x = flippedIn i n start image in
       let b = flipped-burst n in
-      burst-flip (suc n) start image x (start + n) i (omega arith, omega arith)
-      (record { size = b .size; words = b .words; elsewhere = λ at ne. b .elsewhere at (λ w. ne (w .0, omega (arith, w .1))) })
+      burst-flip (wordsFrom (suc n) start) image (flippedIn i n start image) (start + n) i (omega arith, omega arith)
+      (record { size = b .size; words = b .words; elsewhere = λ at j ne. b .elsewhere at j (λ w. ne (w .0, omega (arith, w .1))) })
 
   flipped-changed : (n j : ℕ) → j < n → start + j < length image → Changed i (start + j) image (flippedIn i n start image)
   unfolding flippedIn
@@ -139,18 +167,14 @@ module _ (layout : Layout) (image : List ℕ) (all : AllValid layout image) (blo
       let b = flipped-burst n in
       by-cases (ℕ-discrete j n)
       (λ e.
-      rw e
-      (this-bit (start + n) i x low (rw (b .size, ← e) l)
-      ∙ ap (λ (w : ℕ). not (bit i w)) (b .elsewhere (start + n) (λ w. omega (arith, w .1)))))
-      (λ ne. ap (bit i) (other-word (start + n) i x (start + j) (λ e. ne (omega arith))) ∙ flipped-changed n j (omega arith) l)
+      rw e (this-bit (start + n) i x low (rw (b .size, ← e) l) ∙ ap not (b .elsewhere (start + n) i (λ w. omega (arith, w .1)))))
+      (λ ne. other-bit (start + n) i x (start + j) i (λ e f. ne (omega arith)) ∙ flipped-changed n j (omega arith) l)
 
-  pub flipped-lost : (answer : Answer) (after : List ℕ) → Visits (flippedIn i (suc (layout .s)) start image) layout block answer after → SaysLost answer
-  flipped-lost answer after v =
+  pub flipped-lost : Loses layout block (flippedIn i (suc (layout .s)) start image)
+  flipped-lost =
       let s = layout .s in
+      let left = flippedIn i (suc s) start image in
       let first = flipped-changed (suc s) 0 (omega arith) (omega (arith, first-inside)) in
-      pair-lost (flippedIn i (suc s) start image) (flipped-burst (suc s))
-      (subst (λ (at : ℕ). Changed i at image (flippedIn i (suc s) start image)) (add-zero start) first)
+      burst-lost left (wordsFrom (suc s) start) (refl, refl) (flipped-burst (suc s))
+      (subst (λ (at : ℕ). Changed i at image left) (add-zero start) first)
       (flipped-changed (suc s) s (omega arith) last-inside)
-      answer
-      after
-      v .0

@@ -7,7 +7,7 @@ use mathlib.Core.List.{List, [], _∷_, _++_}
 use mathlib.Core.Logic.{_⊎_}
 use lib.ListN.{length, getD, replicate}
 use Rattle.lane.specs.Bit.{bit}
-use Rattle.block.specs.Block.{Fitting, dataOf}
+use Rattle.block.specs.Block.{Fitting, SameRows, dataOf}
 use Rattle.layout.specs.declared.Layout.{Layout}
 use Rattle.layout.specs.Layout.{shapeOf, rowsOf, wordsOf, blocks, index}
 use Rattle.layout.specs.Refusal.{imageRefusal}
@@ -34,23 +34,38 @@ pub record AllValid (layout : Layout) (image : List ℕ) : Type 0 where
   pub words : Fitting image
   pub valid : (block : ℕ) → block < blocks layout → ValidStored (shapeOf layout) (storedRows layout block image)
 
--- an index is one of n neighbouring words
+-- a number is one of n running
 abbrev pub Within : (n start at : ℕ) → Type 0
 Within n start at = (start ≤ at) × (at < start + n)
 
--- any bits of n neighbouring words are changed, and no other word is
-pub record Burst (n start : ℕ) (image spoiled : List ℕ) : Type 0 where
+-- n neighbouring words, or n neighbouring bytes, four to a word: byte b of a word lies at `place b`, which is b where the lowest comes first, and
+-- 3 − b where the highest does
+pub data Reach : Type 0 where
+  wordsFrom : (n start : ℕ) → Reach
+  bytesFrom : (place : ℕ → ℕ) → (n start : ℕ) → Reach
+
+-- bit i of the word at an index is one of theirs
+abbrev pub Hit : Reach → (at i : ℕ) → Type 0
+Hit (wordsFrom n start) at i = Within n start at
+Hit (bytesFrom place n start) at i = Within n start (4 * at + place (i / 8))
+
+-- they are at most s words, or at most 4·s bytes, wherever they begin
+abbrev pub Short : Layout → Reach → Type 0
+Short layout (wordsFrom n start) = n ≤ layout .s
+Short layout (bytesFrom place n start) = n ≤ 4 * layout .s
+
+-- any of their bits are changed, and no other bit is
+pub record Burst (reach : Reach) (image spoiled : List ℕ) : Type 0 where
   pub size : length spoiled ≡ length image
   pub words : Fitting spoiled
-  pub elsewhere : (at : ℕ) → (Within n start at → ⊥) → getD spoiled at 0 ≡ getD image at 0
+  pub elsewhere : (at i : ℕ) → (Hit reach at i → ⊥) → bit i (getD spoiled at 0) ≡ bit i (getD image at 0)
 
--- every block was valid, and at most s neighbouring words are spoiled
+-- every block was valid, and such a burst has struck
 pub record Struck (layout : Layout) (image spoiled : List ℕ) : Type 0 where
   pub valid : AllValid layout image
-  pub n : ℕ
-  pub start : ℕ
-  pub few : n ≤ layout .s
-  pub burst : Burst n start image spoiled
+  pub reach : Reach
+  pub short : Short layout reach
+  pub burst : Burst reach image spoiled
 
 -- ---- what is done then
 
@@ -76,30 +91,39 @@ pub record OnTheWay (layout : Layout) (image now : List ℕ) : Type 0 where
   pub done : List ℕ
   pub visits : VisitsInOrder layout done spoiled now
 
--- every accepted read of demand 3, had a burst come straight before it
+-- every accepted read of demand 3, had a burst come straight before it, with some visits since perhaps
 abbrev pub ReadsStruck : List ℕ → Layout → Type 0
 ReadsStruck image layout =
     (steps : List Step) → OneLayout image layout steps → WordsWritten steps → FlipsSpaced image layout steps → NotFormatted image layout steps
     → (before rest : List Step) (named : Layout) (block : ℕ) (buffer : List ℕ) → steps ≡ before ++ read named block buffer ∷ rest
-    → (spoiled : List ℕ) → Struck layout (store image layout before .image) spoiled
-    → (answer : Answer) (kept left : List ℕ) → Reads spoiled named block buffer answer kept left
+    → (now : List ℕ) → OnTheWay layout (store image layout before .image) now
+    → (answer : Answer) (kept left : List ℕ) → Reads now named block buffer answer kept left
     → answerNumber answer ≡ 0
     → (SaysLost answer → ⊥) × (left ≡ lastWritten block (replicate (wordsOf layout) 0) before (fresh image layout))
 
--- ---- one word more
+-- ---- one more
 
 -- rows k + 1 and k + 2 of a block are both there
 abbrev pub RowsPair : Layout → ℕ → Type 0
 RowsPair layout k = suc k < rowsOf layout
 
+-- one word or one byte more than that, from the word, or from the byte of bit i of the word, at an index on
+abbrev pub OneMore : Layout → (at i : ℕ) → Reach → Type 0
+OneMore layout at i (wordsFrom n start) = (n ≡ suc (layout .s)) × (start ≡ at)
+OneMore layout at i (bytesFrom place n start) = (n ≡ suc (4 * layout .s)) × (start ≡ 4 * at + place (i / 8))
+
 -- bit i of a word is changed
 abbrev pub Changed : (i at : ℕ) → (image spoiled : List ℕ) → Type 0
 Changed i at image spoiled = bit i (getD spoiled at 0) ≡ not (bit i (getD image at 0))
 
--- bit i of each of n neighbouring words is flipped
+-- bit i is flipped in each of n neighbouring words
 unfoldable pub flippedIn : (i n start : ℕ) → List ℕ → List ℕ
 flippedIn i zero start image = image
 flippedIn i (suc n) start image = flipped (start + n) i (flippedIn i n start image)
+
+-- a visit says lost of a block, and leaves the image
+abbrev pub Loses : Layout → ℕ → List ℕ → Type 0
+Loses layout block image = (answer : Answer) (after : List ℕ) → Visits image layout block answer after → SaysLost answer × (after ≡ image)
 
 -- ---- the steps of a store
 
@@ -107,14 +131,11 @@ flippedIn i (suc n) start image = flipped (start + n) i (flippedIn i n start ima
 abbrev pub Each : (Step → Type 0) → List Step → Type 0
 Each Such steps = (first rest : List Step) (step : Step) → steps ≡ first ++ step ∷ rest → Such step
 
--- flips in at most s neighbouring words
-abbrev pub FlipWithin : (n start : ℕ) → Step → Type 0
-FlipWithin n start step = (at bit : ℕ) × (step ≡ flip at bit) × Within n start at
+-- a flip of one of the bits
+abbrev pub FlipOf : Reach → Step → Type 0
+FlipOf reach step = (at bit : ℕ) × (step ≡ flip at bit) × Hit reach at bit
 
-abbrev pub Spark : Layout → List Step → Type 0
-Spark layout steps = (n start : ℕ) × (n ≤ layout .s) × Each (FlipWithin n start) steps
-
--- a call that stores no data: a read, an ask, a turn, a visit with this layout
+-- a read, an ask, a turn, a visit with this layout
 abbrev pub Quiet : Layout → Step → Type 0
 Quiet layout (format named) = ⊥
 Quiet layout (write named block list) = ⊥
@@ -124,11 +145,13 @@ Quiet layout (ask block) = Unit {0}
 Quiet layout turn = Unit {0}
 Quiet layout (flip at bit) = ⊥
 
--- every block of a store was valid, a spark has spoiled it, and quiet calls came since
+-- every block of a store was valid, a spark has flipped bits of so many words or bytes, and quiet calls came since
 pub record Sparked (image : List ℕ) (layout : Layout) (before spark since : List Step) : Type 0 where
-  pub kept : NotFormatted image layout (before ++ spark ++ since)
+  pub unformatted : NotFormatted image layout before
   pub valid : AllValid layout (store image layout before .image)
-  pub struck : Spark layout spark
+  pub reach : Reach
+  pub short : Short layout reach
+  pub flips : Each (FlipOf reach) spark
   pub quiet : Each (Quiet layout) since
 
 pub record Bursts : Type 0 where
@@ -143,6 +166,9 @@ pub record Bursts : Type 0 where
   pub restored : (layout : Layout) (image spoiled : List ℕ) → Struck layout image spoiled
       → (order after : List ℕ) → EveryBlock layout order → VisitsInOrder layout order spoiled after
       → after ≡ image
+  -- on the way, every block that has been visited is as it was
+  pub visited : (layout : Layout) (image now : List ℕ) (way : OnTheWay layout image now) (block : ℕ) → block < blocks layout → Comes block (way .done)
+      → SameRows (shapeOf layout) (storedRows layout block now) (storedRows layout block image)
   -- no visit says lost, neither on the way nor after; and every visit of a block is accepted
   pub none-lost : (layout : Layout) (image now : List ℕ) → OnTheWay layout image now
       → (block : ℕ) (answer : Answer) (after : List ℕ) → Visits now layout block answer after
@@ -156,35 +182,46 @@ pub record Bursts : Type 0 where
       → (block : ℕ) (buffer : List ℕ) (answer : Answer) (kept filled : List ℕ) → Reads now layout block buffer answer kept filled
       → answerNumber answer ≡ 0
       → (SaysLost answer → ⊥) × (filled ≡ dataOf (shapeOf layout) (storedRows layout block image))
-  -- so a read that demand 3 speaks of gives the data last written, or zeros, though a burst came straight before it
+  -- so one that demand 3 speaks of gives the data last written, or zeros
   pub reads-right : (image : List ℕ) (layout : Layout) → ReadsStruck image layout
-  -- the patrol is such an order: N turns after a spark, whatever other calls but writes come between, the image is what it was
+  -- the patrol is such an order: N turns after a spark, whatever quiet calls come between, the image is what it was
   pub round : (image : List ℕ) (layout : Layout) (before spark since : List Step) → Sparked image layout before spark since
       → blocks layout ≤ turns since
       → store image layout (before ++ spark ++ since) .image ≡ store image layout before .image
-  -- and no turn, on the way or after, reports a block lost
+  -- no turn, on the way or after, reports a block lost, and a read gives the data that the block held
   pub turns-none-lost : (image : List ℕ) (layout : Layout) (before spark since : List Step) → Sparked image layout before spark since
       → (answer : Turned) (left : List ℕ)
       → Turns (store image layout (before ++ spark ++ since) .patrol) (store image layout (before ++ spark ++ since) .image) answer left
       → (reportFirst (answer .report) .said .verdict ≡ 3 → ⊥) × (reportSecond (answer .report) .said .verdict ≡ 3 → ⊥)
-  -- s + 1 neighbouring words are too many: the first and the last are rows k + 1 and k + 2 of one block, and where the same bit of both is
-  -- changed it is lost, and left as it is
+  pub round-reads : (image : List ℕ) (layout : Layout) (before spark since : List Step) → Sparked image layout before spark since
+      → (block : ℕ) (buffer : List ℕ) (answer : Answer) (kept filled : List ℕ)
+      → Reads (store image layout (before ++ spark ++ since) .image) layout block buffer answer kept filled
+      → answerNumber answer ≡ 0
+      → (SaysLost answer → ⊥) × (filled ≡ dataOf (shapeOf layout) (storedRows layout block (store image layout before .image)))
+  -- s + 1 neighbouring words, or 4·s + 1 bytes, are too many: the first and the last are of rows k + 1 and k + 2 of one block, and where the same
+  -- bit of both is changed it is lost, and left as it is
   pub too-many : (layout : Layout) (image spoiled : List ℕ) → AllValid layout image
       → (block k i : ℕ) → block < blocks layout → RowsPair layout k → i < 32
-      → Burst (suc (layout .s)) (index layout block (suc k)) image spoiled
+      → (reach : Reach) → OneMore layout (index layout block (suc k)) i reach → Burst reach image spoiled
       → Changed i (index layout block (suc k)) image spoiled
       → Changed i (index layout block (suc k) + layout .s) image spoiled
-      → (answer : Answer) (after : List ℕ) → Visits spoiled layout block answer after
-      → SaysLost answer × (after ≡ spoiled)
-  -- one bit flipped in each of them is such a burst: for both shapes, every s, every block and every row but its last
+      → Loses layout block spoiled
+  -- the same bit flipped in each of s + 1 words is such a burst: for both shapes, every s, every block and every row but its last
   pub tight : (layout : Layout) (image : List ℕ) → AllValid layout image
       → (block k i : ℕ) → block < blocks layout → RowsPair layout k → i < 32
-      → Burst (suc (layout .s)) (index layout block (suc k)) image (flippedIn i (suc (layout .s)) (index layout block (suc k)) image)
-      × ((answer : Answer) (after : List ℕ) → Visits (flippedIn i (suc (layout .s)) (index layout block (suc k)) image) layout block answer after
-      → SaysLost answer)
-  -- in bytes, four to a word: 4·s bytes from a word's start on are at most s words, and so are 4·s − 3 bytes from anywhere
+      → Burst (wordsFrom (suc (layout .s)) (index layout block (suc k))) image (flippedIn i (suc (layout .s)) (index layout block (suc k)) image)
+      × Loses layout block (flippedIn i (suc (layout .s)) (index layout block (suc k)) image)
+  -- so of every image that was formatted, with bit 0 flipped in its first s + 1 words, block 0 is lost
+  pub tight-fresh : (image : List ℕ) (layout : Layout) (answer : Formatted) (after : List ℕ) → Formats image layout answer after
+      → answer .number ≡ 0
+      → Loses layout 0 (flippedIn 0 (suc (layout .s)) 0 after)
+  -- but s + 1 words from a block's last row on, where its group ends, are of s + 1 blocks, and are mended whole
+  pub border : (layout : Layout) (image spoiled : List ℕ) → AllValid layout image
+      → (block : ℕ) → Burst (wordsFrom (suc (layout .s)) (index layout block (rowsOf layout))) image spoiled
+      → (order after : List ℕ) → EveryBlock layout order → VisitsInOrder layout order spoiled after
+      → after ≡ image
+  -- how many bytes are at most s words: 4·s from a word's start on, and 4·s − 3 from anywhere; one more from a word's last byte on is not
   pub bytes-from-word : (s word n at : ℕ) → n ≤ 4 * s → Within n (4 * word) at → Within s word (at / 4)
-  pub bytes : (s start n at : ℕ) → n + 3 ≤ 4 * s → Within n start at → Within s (start / 4) (at / 4)
-  -- one byte more is not: from the last byte of a word on, it begins in one word and ends in the word s further on
+  pub bytes-from-any : (s start n at : ℕ) → n + 3 ≤ 4 * s → Within n start at → Within s (start / 4) (at / 4)
   pub bytes-more : (s word : ℕ) → 1 ≤ s
       → (last : ℕ) × Within (4 * s - 2) (4 * word + 3) last × (last / 4 ≡ (4 * word + 3) / 4 + s)

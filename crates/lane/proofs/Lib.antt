@@ -3,6 +3,7 @@ pub mod Linear
 pub mod Distance
 pub mod Decided
 pub mod Mended
+pub mod Few
 pub mod Rows
 pub mod Exactly
 pub mod TwoKinds

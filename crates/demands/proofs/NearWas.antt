@@ -1,5 +1,5 @@
 -- An image in which every block is at most one bit a lane off a valid one: what a burst leaves, and what each visit leaves of it. Assumes nothing.
-use Prim.Native.Nat.{ℕ, suc, _+_, _≤_, _<_}
+use Prim.Native.Nat.{ℕ, suc, _+_, _*_, _/_, _≤_, _<_}
 use mathlib.Core.Bool.{Bool, true, true≢false}
 use mathlib.Core.Path.{_≡_, refl, sym, ap, subst, _∙_}
 use mathlib.Core.List.{List, [], _∷_}
@@ -11,6 +11,7 @@ use lib.Seq.{ext-getD}
 use Rattle.ground.proofs.Choices.{refused-kept}
 use Rattle.lane.specs.Bit.{bit, _⊕_}
 use Rattle.lane.specs.Lane.{diff, apart}
+use Rattle.lane.proofs.Few.{count-once}
 use Rattle.lane.proofs.Mended.{⊕-self}
 use Rattle.shape.specs.declared.Shape.{Shape}
 use Rattle.shape.specs.Shape.{before}
@@ -24,6 +25,7 @@ use Rattle.layout.specs.declared.Layout.{Layout}
 use Rattle.layout.specs.Layout.{shapeOf, rowsOf, blocks, index}
 use Rattle.layout.specs.Refusal.{blockRefusal}
 use Rattle.layout.proofs.Ladder.{accepted, block-accepted, image-exact}
+use Rattle.layout.proofs.Index.{one-to-one}
 use Rattle.layout.proofs.RowsInside.{interleaved}
 use Rattle.store.specs.declared.Answer.{Answer}
 use Rattle.store.specs.Answer.{answerNumber}
@@ -35,50 +37,69 @@ use Rattle.store.proofs.Image.{length-rows, rows-row, rows-words}
 use Rattle.store.proofs.Ladder.{data-accepted}
 use Rattle.store.proofs.Promises.{visits}
 use Rattle.demands.specs.Demand2.{Meant, Visiting, SaysLost}
-use Rattle.demands.specs.Burst.{AllValid, Within, Burst, VisitsInOrder, Comes, EveryBlock}
+use Rattle.demands.specs.Burst.{AllValid, Within, Reach, wordsFrom, bytesFrom, Hit, Short, Burst, VisitsInOrder, Comes, EveryBlock}
 use Rattle.demands.proofs.Demand2.{demand-2}
 use Rattle.demands.specs.Steps.{flipped}
-use Rattle.demands.proofs.Flips.{length-flipped, flipped-words, other-word, count-once}
-use Rattle.demands.proofs.Index.{blockAt, rowsPast, row-below, index-at, block-inside, row-once}
+use Rattle.demands.proofs.Flips.{length-flipped, flipped-words, other-bit}
+use Rattle.demands.proofs.Index.{blockAt, rowsPast, row-below, index-at, block-inside, rows-apart}
 use Rattle.demands.proofs.SameBlocks.{same-apart, same-data}
 
--- ---- a burst of at most s words
+-- ---- a lane of a block, some bits changed
 
-module _ (layout : Layout) (n start : ℕ) (image spoiled : List ℕ) (few : n ≤ layout .s)
-    (elsewhere : (at : ℕ) → (Within n start at → ⊥) → getD spoiled at 0 ≡ getD image at 0)
-    (block i : ℕ) where
+module _ (layout : Layout) (image spoiled : List ℕ) (block i : ℕ) where
+  -- it is changed in row k + 1
+  abbrev Off : ℕ → Type 0
+  Off k = bit i (getD spoiled (index layout block (suc k)) 0) ≡ bit i (getD image (index layout block (suc k)) 0) → ⊥
+
   abbrev offs : ℕ → Bool
   offs = diff (lane i (storedRows layout block spoiled)) (lane i (storedRows layout block image))
 
-  -- a row whose bit is changed is one of the words that were spoiled
-  off-within : (k : ℕ) → k < rowsOf layout → offs (suc k) ≡ true → Within n start (index layout block (suc k))
-  off-within k h t =
-      let at = index layout block (suc k) in
-      let word = getD (storedRows layout block image) k 0 in
-      let out : (Within n start at → ⊥) → Within n start at =
-      λ ne.
-      let same : getD (storedRows layout block spoiled) k 0 ≡ word =
-      rows-row layout block spoiled k h ∙ elsewhere at ne ∙ sym (rows-row layout block image k h) in
-      absurd (true≢false (sym t ∙ ap (λ (w : ℕ). bit i w ⊕ bit i word) same ∙ ⊕-self (bit i word))) in
-      by-cases (decLt at start) (λ l. out (λ w. omega (arith, w .0)))
-      (λ l.
-      by-cases (decLt at (start + n)) (λ m. (omega arith, m)) (λ m. out (λ w. omega (arith, w .1))))
+  off-row : (k : ℕ) → k < rowsOf layout → offs (suc k) ≡ true → Off k
+  off-row k h t same =
+      let was = lane i (storedRows layout block image) (suc k) in
+      let stored : (words : List ℕ) → lane i (storedRows layout block words) (suc k) ≡ bit i (getD words (index layout block (suc k)) 0) =
+      λ words. ap (bit i) (rows-row layout block words k h) in
+      true≢false (sym t ∙ ap (λ (b : Bool). b ⊕ was) (stored spoiled ∙ same ∙ sym (stored image)) ∙ ⊕-self was)
 
-  -- so a block is changed in at most one row, and a lane of it in at most one bit
-  pub burst-near : apart (before (shapeOf layout)) (lane i (storedRows layout block spoiled)) (lane i (storedRows layout block image)) ≤ 1
-  burst-near =
-      count-once (rowsOf layout) offs
-      (λ j k l h t u. row-once layout n start block j k few l (off-within j (omega arith) t) (off-within k h u))
+  -- changed in no two rows, it is off by at most one bit
+  pub lone-near : ((j k : ℕ) → j < k → k < rowsOf layout → Off j → Off k → ⊥)
+      → apart (before (shapeOf layout)) (lane i (storedRows layout block spoiled)) (lane i (storedRows layout block image)) ≤ 1
+  lone-near lone = count-once (rowsOf layout) offs (λ j k l h t u. lone j k l h (off-row j (omega arith) t) (off-row k h u))
 
--- one more flip in a burst's words is of the burst
-pub burst-flip : (n start : ℕ) (image spoiled : List ℕ) (at nth : ℕ) → Within n start at → Burst n start image spoiled
-    → Burst n start image (flipped at nth spoiled)
-burst-flip n start image spoiled at nth within burst =
+-- ---- a burst
+
+pub within? : (n start at : ℕ) → Dec (Within n start at)
+within? n start at =
+    by-cases (decLt at start) (λ l. no (λ w. omega (arith, w .0)))
+    (λ l. by-cases (decLt at (start + n)) (λ m. yes (omega arith, m)) (λ m. no (λ w. omega (arith, w .1))))
+
+hit? : (reach : Reach) (at i : ℕ) → Dec (Hit reach at i)
+hit? (wordsFrom n start) at i = within? n start at
+hit? (bytesFrom place n start) at i = within? n start (4 * at + place (i / 8))
+
+-- a bit that is changed is one of the burst's
+pub off-hit : (reach : Reach) (image spoiled : List ℕ) → Burst reach image spoiled
+    → (at i : ℕ) → (bit i (getD spoiled at 0) ≡ bit i (getD image at 0) → ⊥) → Hit reach at i
+off-hit reach image spoiled burst at i off = by-cases (hit? reach at i) (λ w. w) (λ ne. absurd (off (burst .elsewhere at i ne)))
+
+-- it is too short to hit the same bit of two words that are s apart
+hits-near : (layout : Layout) (reach : Reach) → Short layout reach → (a b i : ℕ) → a + layout .s ≤ b → Hit reach a i → Hit reach b i → ⊥
+hits-near layout (wordsFrom n start) short a b i far u v = omega (arith, short, u .0, v .1)
+hits-near layout (bytesFrom place n start) short a b i far u v = omega (arith, short, u .0, v .1)
+
+-- one more flip of it is of it
+pub burst-flip : (reach : Reach) (image spoiled : List ℕ) (at nth : ℕ) → Hit reach at nth → Burst reach image spoiled
+    → Burst reach image (flipped at nth spoiled)
+burst-flip reach image spoiled at nth hit burst =
     record {
       size = length-flipped at nth spoiled ∙ burst .size;
       words = flipped-words at nth spoiled (burst .words);
-      elsewhere = λ i ne. other-word at nth spoiled i (λ e. ne (rw e within)) ∙ burst .elsewhere i ne;
+      elsewhere = λ a i ne. other-bit at nth spoiled a i (λ e f. ne (rw (e, f) hit)) ∙ burst .elsewhere a i ne;
     }
+
+-- no burst at all
+pub burst-none : (reach : Reach) (image : List ℕ) → Fitting image → Burst reach image image
+burst-none reach image small = record { size = refl; words = small; elsewhere = λ at i ne. refl }
 
 -- ---- an image that is near the one that was
 
@@ -89,7 +110,7 @@ module _ (layout : Layout) (image : List ℕ) (all : AllValid layout image) wher
   abbrev stored : ℕ → List ℕ → List ℕ
   stored block words = storedRows layout block words
 
-  pub record Spoiled (now : List ℕ) : Type 0 where
+  pub record NearWas (now : List ℕ) : Type 0 where
     pub size : length now ≡ length image
     pub words : Fitting now
     pub near : (block : ℕ) → block < blocks layout → Near shape (stored block now) (stored block image)
@@ -98,12 +119,41 @@ module _ (layout : Layout) (image : List ℕ) (all : AllValid layout image) wher
   abbrev pub AsWas : ℕ → List ℕ → Type 0
   AsWas block now = SameRows shape (stored block now) (stored block image)
 
-  pub burst-spoils : (n start : ℕ) (spoiled : List ℕ) → n ≤ layout .s → Burst n start image spoiled → Spoiled spoiled
-  burst-spoils n start spoiled few burst =
+  pub burst-leaves : (reach : Reach) (spoiled : List ℕ) → Short layout reach → Burst reach image spoiled → NearWas spoiled
+  burst-leaves reach spoiled short burst =
       record {
         size = burst .size;
         words = burst .words;
-        near = λ block h i l. burst-near layout n start image spoiled few (burst .elsewhere) block i;
+        near = λ block h i l.
+            lone-near layout image spoiled block i
+            (λ j k m b u v.
+            hits-near layout reach short (index layout block (suc j)) (index layout block (suc k)) i (rows-apart layout block j k m)
+            (off-hit reach image spoiled burst (index layout block (suc j)) i u)
+            (off-hit reach image spoiled burst (index layout block (suc k)) i v));
+      }
+
+  -- from a block's last row on, the word s further is no row of it
+  pub border-leaves : (block : ℕ) (spoiled : List ℕ) → Burst (wordsFrom (suc (layout .s)) (index layout block (rowsOf layout))) image spoiled
+      → NearWas spoiled
+  border-leaves last spoiled burst =
+      record {
+        size = burst .size;
+        words = burst .words;
+        near = λ block h i l.
+            lone-near layout image spoiled block i
+            (λ j k m b u v.
+            let reach = wordsFrom (suc (layout .s)) (index layout last (rowsOf layout)) in
+            let first = off-hit reach image spoiled burst (index layout block (suc j)) i u in
+            let second = off-hit reach image spoiled burst (index layout block (suc k)) i v in
+            let far = rows-apart layout block j k m in
+            let same : index layout block (suc j) ≡ index layout last (rowsOf layout) = omega (arith, first .0, second .1, far) in
+            let q =
+            one-to-one (rowsOf layout) (layout .s) (interleaved layout (length image) (all .fits)) block (suc j) last (rowsOf layout) (omega arith)
+            (omega arith)
+            (omega arith)
+            (omega arith)
+            same in
+            omega (arith, q .1));
       }
 
   -- where every block is as it was, the image is
@@ -122,13 +172,13 @@ module _ (layout : Layout) (image : List ℕ) (all : AllValid layout image) wher
 
   -- ---- a visit
 
-  module _ (now : List ℕ) (ok : Spoiled now) (block : ℕ) where
+  module _ (now : List ℕ) (ok : NearWas now) (block : ℕ) where
     pub meant : block < blocks layout → Meant shape (stored block now) (stored block image)
     meant h =
         record {
           whole = rw (length-rows layout block image) (rows-fit shape);
           words = rows-words layout block image (all .words);
-          valid = all .valid block h;
+          valid = all .valid block (omega (arith, h));
           near = ok .near block h;
         }
 
@@ -162,7 +212,7 @@ module _ (layout : Layout) (image : List ℕ) (all : AllValid layout image) wher
           let same = ap (gathered layout other) (v .leaves) ∙ visit-untouched now layout block .others other ne in
           sym (complemented-twice (stored other after)) ∙ ap complemented same ∙ complemented-twice (stored other now)
 
-      pub visit-leaves : Spoiled after
+      pub visit-leaves : NearWas after
       visit-leaves =
           record {
             size = ap length (v .leaves) ∙ visit-untouched now layout block .size ∙ ok .size;
@@ -195,8 +245,8 @@ module _ (layout : Layout) (image : List ℕ) (all : AllValid layout image) wher
 
   -- ---- visits in order
 
-  pub order-leaves : (order now after : List ℕ) → Spoiled now → VisitsInOrder layout order now after
-      → Spoiled after × ((block : ℕ) → block < blocks layout → Comes block order ⊎ AsWas block now → AsWas block after)
+  pub order-leaves : (order now after : List ℕ) → NearWas now → VisitsInOrder layout order now after
+      → NearWas after × ((block : ℕ) → block < blocks layout → Comes block order ⊎ AsWas block now → AsWas block after)
   unfolding VisitsInOrder Comes
   order-leaves [] now after ok v = rw v (ok, λ block h. ⊎-elim (λ none. absurd none) (λ same. same))
   order-leaves (first ∷ rest) now after ok v =
@@ -213,7 +263,7 @@ module _ (layout : Layout) (image : List ℕ) (all : AllValid layout image) wher
             (λ same. later .1 block h (inr (visit-keeps now ok first answer between one block h same))),
       )
 
-  pub order-restores : (order now after : List ℕ) → Spoiled now → EveryBlock layout order → VisitsInOrder layout order now after → after ≡ image
+  pub order-restores : (order now after : List ℕ) → NearWas now → EveryBlock layout order → VisitsInOrder layout order now after → after ≡ image
   order-restores order now after ok every v =
       let left = order-leaves order now after ok v in
       all-as-was after (left .0 .size) (λ block h. left .1 block h (inl (every block (omega (arith, h)))))
