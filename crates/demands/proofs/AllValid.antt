@@ -4,6 +4,7 @@ use mathlib.Core.Path.{_≡_, sym, ap, subst, _∙_}
 use mathlib.Core.List.{List}
 use mathlib.Core.Logic.{by-cases}
 use native.Mathlib.Decide.{ℕ-discrete}
+use native.Mathlib.Omega.{arith}
 use lib.ListN.{length, replicate}
 use Rattle.ground.proofs.Choices.{refused-kept}
 use Rattle.lane.specs.Bit.{bit}
@@ -38,7 +39,7 @@ fresh-all layout len fits =
       words = fresh-words layout;
       valid = λ block inside i l.
           valid-same (before shape) (lane i (validBlock shape zeros)) (lane i (gathered layout block (freshImage layout)))
-          (λ j h. ap (bit i) (sym (fresh-block layout (image-layout layout len fits) block inside j h)))
+          (λ j h. ap (bit i) (sym (fresh-block layout (image-layout layout len fits) block (omega (arith, inside)) j h)))
           (valid-is shape zeros i l);
     }
 

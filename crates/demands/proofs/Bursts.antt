@@ -63,11 +63,9 @@ read-right image layout steps one words spaced none before rest named block buff
     let filled = readBuffer was named block buffer in
     let unspoiled = reads was named block buffer {answer = said} {after = filled} refl refl in
     let right = demand-3 .reads-right image layout steps one words spaced none before rest named block buffer e said was filled unspoiled number in
+    let same = burst-leaves layout was all (wordsFrom 0 0) was (omega arith) (burst-none (wordsFrom 0 0) was (all .words)) in
     let quiet =
-    read-kept layout was all was (burst-leaves layout was all (wordsFrom 0 0) was (omega arith) (burst-none (wordsFrom 0 0) was (all .words))) block buffer said was
-    filled
-    (subst (λ (l : Layout). Reads was l block buffer said was filled) ours unspoiled)
-    number in
+    read-kept layout was all was same block buffer said was filled (subst (λ (l : Layout). Reads was l block buffer said was filled) ours unspoiled) number in
     let got =
     read-kept layout was all now near block buffer answer kept left (subst (λ (l : Layout). Reads now l block buffer answer kept left) ours p) z in (
       got .0,

@@ -85,19 +85,27 @@ module _ (layout : Layout) (image : List ℕ) (all : AllValid layout image) (blo
     first-off =
         lone-near layout spoiled mid block i
         (λ j l less h u v.
-        let at : (r : ℕ) → (bit i (getD mid (index layout block (suc r)) 0) ≡ bit i (getD spoiled (index layout block (suc r)) 0) → ⊥)
-        → index layout block (suc r) ≡ start =
-        λ r off. by-cases (ℕ-discrete (index layout block (suc r)) start) (λ e. e) (λ ne. absurd (off (ap (bit i) (mid-word (index layout block (suc r)) ne)))) in
-        omega (arith, at j u, at l v, rows-apart layout block j l less, interleaved layout (length image) (all .fits)))
+        omega (
+          arith,
+          first-alone (index layout block (suc j)) u,
+          first-alone (index layout block (suc l)) v,
+          rows-apart layout block j l less,
+          interleaved layout (length image) (all .fits),
+        ))
+      where
+        first-alone : (at : ℕ) → (bit i (getD mid at 0) ≡ bit i (getD spoiled at 0) → ⊥) → at ≡ start
+        first-alone at off = by-cases (ℕ-discrete at start) (λ e. e) (λ ne. absurd (off (ap (bit i) (mid-word at ne))))
 
     others-off : apart m (lane i (storedRows layout block mid)) (lane i was) ≤ 1
     others-off =
         lone-near layout image mid block i
         (λ j l less h u v.
-        let at : (r : ℕ) → (bit i (getD mid (index layout block (suc r)) 0) ≡ bit i (getD image (index layout block (suc r)) 0) → ⊥)
-        → Within (layout .s) (suc start) (index layout block (suc r)) =
-        λ r off. after-first (index layout block (suc r)) off in
-        omega (arith, at j u .0, at l v .1, rows-apart layout block j l less))
+        omega (
+          arith,
+          after-first (index layout block (suc j)) u .0,
+          after-first (index layout block (suc l)) v .1,
+          rows-apart layout block j l less,
+        ))
       where
         after-first : (at : ℕ) → (bit i (getD mid at 0) ≡ bit i (getD image at 0) → ⊥) → Within (layout .s) (suc start) at
         after-first at off =
