@@ -6,8 +6,8 @@
    chip shows: a block that reads all zeros, or all ones, is lost in 32 lanes, all with even parity. So memory that was only
    set to zero is no image: format it.
    An image has N = s * g blocks (s from 1 to 16, N at most 4096) and exactly rows * N words. Blocks are numbered from 0.
-   Neighbouring words belong to s different blocks. So where every block is valid and any bits in up to s words in a row are
-   then spoiled, no block is lost, and visits of all of them, or N turns, leave the image as it was.
+   s neighbouring words belong to s different blocks. So where every block is valid and any bits of up to s neighbouring words
+   are then spoiled, no block is lost, and visits of all of them, or N turns, leave the image as it was.
 
    Use: format once, write and read blocks by number, and call turn again and again, which patrols the image: each turn
    visits (checks and mends) the next block and one block that was asked for. If at least N turns lie between two flips

@@ -1,8 +1,8 @@
 /* What a burst can do. A store is filled, neighbouring words are spoiled, and every block is visited once, in any order, or by
-   N turns of the patrol. Up to s words, or 4 * s - 3 bytes from anywhere: every read straight after gives what was written, no
-   visit says lost, and the image ends as it was. s + 1 words: a block is lost exactly if the first and the last of them are
-   rows of it and have a changed bit in common; what became of them is told. Only the library's answers are used, and where
-   the rows lie.
+   N turns of the patrol. Up to s words, or 4 * s bytes from anywhere: every read straight after and on the way gives what was
+   written, no visit says lost, and the image ends as it was. s + 1 words: a block is lost exactly if the first and the last of
+   them are rows of it and have a changed bit in common; what became of them is told. Only the library's answers are used, and
+   where the rows lie.
 
    burst SEED ROUNDS   so many rounds on each shape and each s; exits 1 at the first wrong answer. */
 #include <stdio.h>
@@ -17,7 +17,7 @@ static uint32_t image[MOST_BLOCKS * MOST_ROWS], whole[MOST_BLOCKS * MOST_ROWS], 
 static size_t words;
 static uint32_t record[FOLDGREBE_RECORD_WORDS];
 static uint32_t meant[MOST_BLOCKS][MOST_DATA];                          /* what was written */
-static uint64_t short_bursts, byte_bursts, borders, by_turns, long_lost, long_apart, long_border;
+static uint64_t word_bursts, byte_bursts, crossings, by_turns, long_lost, long_apart, long_border;
 static uint64_t random_state, seed;
 
 static uint64_t random_number(void)
@@ -74,25 +74,23 @@ static uint32_t some_bits(void)
 static size_t some_start(size_t many)
 {
     size_t group = (size_t)rows * s;
-    if (g > 1 && below(2)) {
-        borders++;
-        return group * (1 + below(g - 1)) - 1 - below((uint32_t)(many > 1 ? many - 1 : 1));
-    }
+    if (g > 1 && many > 1 && below(2)) return group * (1 + below(g - 1)) - 1 - below((uint32_t)(many - 1));
     return below((uint32_t)(words - many + 1));
 }
 
-static void spoil_words(size_t start, size_t many)
+static void spoil_words(size_t many)
 {
-    for (size_t i = start; i < start + many && i < words; i++) image[i] ^= some_bits();
-    short_bursts++;
+    size_t start = some_start(many), group = (size_t)rows * s;
+    for (size_t i = start; i < start + many; i++) image[i] ^= some_bits();
+    crossings += start / group != (start + many - 1) / group;
+    word_bursts++;
 }
 
-/* At most 4 * s - 3 bytes from anywhere, or 4 * s from a word's start. */
+/* Up to 4 * s bytes from anywhere. */
 static void spoil_bytes(void)
 {
     uint8_t *bytes = (uint8_t *)image;
-    int from_word = (int)below(2);
-    size_t many = from_word ? 4 * s : 4 * s - 3, start = from_word ? 4 * below((uint32_t)words) : below((uint32_t)(4 * words));
+    size_t many = below(2) ? 4 * s : 1 + below(4 * s), start = below((uint32_t)(4 * words));
     for (size_t i = start; i < start + many && i < 4 * words; i++) bytes[i] ^= (uint8_t)random_number();
     byte_bursts++;
 }
@@ -103,46 +101,73 @@ static void expect_kept(uint32_t block, const uint32_t verdict[FOLDGREBE_VERDICT
                verdict[FOLDGREBE_VERDICT_BEYOND] == 0, "wrong verdict or count", block);
 }
 
-/* A read straight after the burst gives what was written, and leaves the image. */
+/* A read gives what was written, and leaves the image. */
+static void read_one(uint32_t block)
+{
+    uint32_t buffer[MOST_DATA], verdict[FOLDGREBE_VERDICT_WORDS];
+    memcpy(spoiled, image, sizeof spoiled);
+    expect(foldgrebe_read(image, words, shape, s, g, block, buffer, data_words, verdict) == 0, "read refused", block);
+    expect_kept(block, verdict, bits_off(block));
+    expect(memcmp(buffer, meant[block], data_words * sizeof *buffer) == 0, "read is not what was written", block);
+    expect(memcmp(image, spoiled, sizeof image) == 0, "a read altered the image", block);
+}
+
 static void read_all(void)
 {
+    for (uint32_t block = 0; block < n; block++) read_one(block);
+}
+
+/* A block is visited; one that must be lost is, in these lanes, and no word changes. */
+static void visit_one(uint32_t block, int lost, uint32_t lanes)
+{
+    uint32_t verdict[FOLDGREBE_VERDICT_WORDS], bits = bits_off(block);
     memcpy(spoiled, image, sizeof spoiled);
-    for (uint32_t block = 0; block < n; block++) {
-        uint32_t buffer[MOST_DATA], verdict[FOLDGREBE_VERDICT_WORDS];
-        expect(foldgrebe_read(image, words, shape, s, g, block, buffer, data_words, verdict) == 0, "read refused", block);
-        expect_kept(block, verdict, bits_off(block));
-        expect(memcmp(buffer, meant[block], data_words * sizeof *buffer) == 0, "read is not what was written", block);
+    expect(foldgrebe_visit(image, words, shape, s, g, block, verdict) == 0, "visit refused", block);
+    if (!lost) {
+        expect_kept(block, verdict, bits);
+        expect(bits_off(block) == 0, "a visited block is not what it was", block);
+        return;
     }
-    expect(memcmp(image, spoiled, sizeof image) == 0, "a read altered the image", 0);
+    expect(verdict[FOLDGREBE_VERDICT_NUMBER] == FOLDGREBE_LOST && verdict[FOLDGREBE_VERDICT_COUNT] == ones(lanes) &&
+               verdict[FOLDGREBE_VERDICT_BEYOND] == 0, "a block with two bits off in a lane is not lost", block);
+    expect(memcmp(image, spoiled, sizeof image) == 0, "a lost block is altered", block);
 }
 
 /* Every block once in a random order, with some of them again on the way. LOST is the block that must be lost, in these lanes. */
 static void visit_all(int lost, uint32_t lanes)
 {
-    uint32_t order[MOST_BLOCKS], verdict[FOLDGREBE_VERDICT_WORDS];
+    uint32_t order[MOST_BLOCKS];
     for (uint32_t i = 0; i < n; i++) order[i] = i;
     for (uint32_t i = n; i-- > 1;) {
         uint32_t j = below(i + 1), other = order[i];
         order[i] = order[j], order[j] = other;
     }
     for (uint32_t i = 0; i < n; i++) {
-        uint32_t block = order[below(4) ? i : below(i + 1)], bits = bits_off(block);
-        i -= block != order[i];
-        expect(foldgrebe_visit(image, words, shape, s, g, block, verdict) == 0, "visit refused", block);
-        if ((int)block != lost) expect_kept(block, verdict, bits);
-        else expect(verdict[FOLDGREBE_VERDICT_NUMBER] == FOLDGREBE_LOST && verdict[FOLDGREBE_VERDICT_COUNT] == ones(lanes) &&
-                        verdict[FOLDGREBE_VERDICT_BEYOND] == 0 && bits_off(block) == bits, "a block with two bits off in a lane is not lost", block);
+        uint32_t again = order[below(i + 1)], other = below(n);
+        if (below(4) == 0) visit_one(again, (int)again == lost, lanes);
+        if (below(4) == 0 && (int)other != lost) read_one(other);
+        visit_one(order[i], (int)order[i] == lost, lanes);
     }
 }
 
-/* N turns, with an ask now and then. */
+/* One visit of a report: its block, and a verdict that counts what was off. */
+static void expect_report(const uint32_t *report, uint32_t block, uint32_t bits)
+{
+    expect(report[FOLDGREBE_REPORT_BLOCK] == block, "a turn visits another block", block);
+    expect_kept(block, report + FOLDGREBE_REPORT_VERDICT, bits);
+}
+
+/* N turns, with an ask and a read now and then. */
 static void turn_all(void)
 {
-    uint32_t report[FOLDGREBE_REPORT_WORDS], place[1];
     for (uint32_t turns = 0; turns < n; turns++) {
-        if (below(3) == 0) foldgrebe_ask(record, below(n), place);
-        expect(foldgrebe_turn(record, image, words, report) == 0, "turn refused", turns);
-        expect(report[FOLDGREBE_REPORT_VERDICT] != FOLDGREBE_LOST && report[FOLDGREBE_REPORT_ASK_VERDICT] != FOLDGREBE_LOST, "a turn reports lost", turns);
+        uint32_t report[FOLDGREBE_REPORT_WORDS], place[1], asked = below(n), asks = below(3) == 0, next = record[FOLDGREBE_RECORD_NEXT];
+        uint32_t bits = bits_off(next), more = asked == next ? 0 : bits_off(asked);
+        if (asks) expect(foldgrebe_ask(record, asked, place) == 0 && *place == 1, "an ask is not first", asked);
+        expect(foldgrebe_turn(record, image, words, report) == 0, "turn refused", next);
+        expect_report(report, next, bits);
+        if (asks) expect_report(report + FOLDGREBE_REPORT_ASK_BLOCK, asked, more);
+        if (below(4) == 0) read_one(below(n));
     }
     by_turns++;
 }
@@ -151,9 +176,10 @@ static void expect_whole(void) { expect(memcmp(image, whole, sizeof image) == 0,
 
 static void burst_up_to_s(void)
 {
-    size_t many = 1 + below(s);
+    uint32_t report[FOLDGREBE_REPORT_WORDS];
+    for (uint32_t turns = below(n); turns--;) expect(foldgrebe_turn(record, image, words, report) == 0, "turn refused", turns);
     if (below(3) == 0) spoil_bytes();
-    else spoil_words(some_start(many), many);
+    else spoil_words(1 + below(s));
     read_all();
     if (below(2)) visit_all(NONE, 0);
     else turn_all();
@@ -199,10 +225,11 @@ int main(int count, char **arguments)
     for (unsigned long rounds = strtoul(arguments[2], 0, 10); rounds--;)
         for (shape = 1; shape <= 2; shape++)
             for (s = 1; s <= MOST_S; s++) one_store();
-    printf("burst: %llu of up to s words and %llu of bytes mended whole, %llu of them by turns; of s + 1 words %llu lost a block, %llu had no bit in "
-           "common there, %llu lay across a group border\n", (unsigned long long)short_bursts, (unsigned long long)byte_bursts,
-           (unsigned long long)by_turns, (unsigned long long)long_lost, (unsigned long long)long_apart, (unsigned long long)long_border);
-    int seen = short_bursts && byte_bursts && by_turns && borders && long_lost && long_apart && long_border;
+    printf("burst: %llu of up to s words, %llu of them across a group border, and %llu of up to 4s bytes mended whole, %llu of these by turns; of s + 1 "
+           "words %llu lost a block, %llu had no bit in common there, %llu lay across a group border\n", (unsigned long long)word_bursts,
+           (unsigned long long)crossings, (unsigned long long)byte_bursts, (unsigned long long)by_turns, (unsigned long long)long_lost,
+           (unsigned long long)long_apart, (unsigned long long)long_border);
+    int seen = word_bursts && crossings && byte_bursts && by_turns && long_lost && long_apart && long_border;
     if (!seen) printf("burst: some kind never came\n");
     return !seen;
 }

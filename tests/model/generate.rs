@@ -149,8 +149,8 @@ pub fn valid_image(r: &mut Random, at: Layout) -> Vec<u32> {
 pub fn burst(r: &mut Random, at: Layout, image: &[u32], many: usize) -> Vec<Put> {
     let group = image.len() / at.g as usize;
     let mut start = r.below((image.len() - many + 1) as u64) as usize;
-    if at.g > 1 && r.chance(50) {
-        start = group * r.from_to(1, at.g - 1) as usize - r.from_to(1, many as u32) as usize;
+    if at.g > 1 && many > 1 && r.chance(50) {
+        start = group * r.from_to(1, at.g - 1) as usize - r.from_to(1, many as u32 - 1) as usize;
     }
     (start..start + many).map(|index| (index, image[index] ^ any_bits(r))).collect()
 }
