@@ -229,7 +229,7 @@ fn strike(r: &mut Random, stream: &mut Stream, at: Layout, lent: &mut Lent) -> i
     for (i, block) in order.iter().enumerate() {
         let call = Call { name: Name::Visit, words: at.words() as u64, shape: at.shape, s: at.s, g: at.g, block: *block, list: Vec::new(), bytes: 0 };
         let kind = stream.make(call, lent)?;
-        lost |= kind.contains("lost");
+        lost |= kind.contains("lost") || kind.contains("dead");
         stream.count(if i + 1 < order.len() { kind } else { format!("visit 0 burst {}", became(wide, lost, lent.image == whole)) });
     }
     Ok(())

@@ -1,5 +1,5 @@
--- What a caller in C is told of a burst in at most s neighbouring words of a valid image: visits of every block, in any order, leave the image as it
--- was, no visit's words say lost, and a read gives what the block held; and so of N turns. Assumes nothing.
+-- What a caller in C is told of a burst in at most s neighbouring words, or 4·s bytes, of a valid image: visits of every block, in any order, or
+-- N turns leave the image as it was, no words of a verdict say lost, and a read gives what the block held. Assumes nothing.
 use Prim.Native.Nat.{ℕ, suc, _≤_, _<_}
 use mathlib.Core.Path.{_≡_}
 use mathlib.Core.List.{List, [], _∷_, _++_}

@@ -1,4 +1,4 @@
--- A burst of at most s neighbouring words is mended whole, and one of s + 1 words can lose a block. Assumes nothing.
+-- A burst of at most s neighbouring words, or 4·s bytes, is mended whole, and one more can lose a block. Assumes nothing.
 use Prim.Native.Nat.{ℕ, suc, _+_, _-_, _*_, _/_, _≤_, _<_}
 use mathlib.Core.Path.{_≡_, refl, sym, ap, subst, _∙_}
 use mathlib.Core.List.{List}
@@ -17,7 +17,7 @@ use Rattle.patrol.specs.declared.Formatted.{Formatted}
 use Rattle.patrol.specs.Format.{Formats}
 use Rattle.demands.specs.Steps.{read, turns}
 use Rattle.demands.specs.Demand3.{store}
-use Rattle.demands.specs.Burst.{Within, wordsFrom, Struck, Comes, OnTheWay, ReadsStruck, flippedIn, Loses, Bursts}
+use Rattle.demands.specs.Burst.{AllValid, wordsFrom, Burst, Struck, Comes, OnTheWay, ReadsStruck, RowsPair, Changed, flippedIn, Loses, Bursts}
 use Rattle.demands.proofs.AllValid.{fresh-valid, write-valid}
 use Rattle.demands.proofs.Demand3.{demand-3}
 use Rattle.demands.proofs.Numbers.{read-number}
@@ -26,6 +26,8 @@ use Rattle.demands.proofs.NearWas.{
   NearWas,
   AsWas,
   burst-leaves,
+  wider-leaves,
+  wider-leaves,
   border-leaves,
   order-leaves,
   order-restores,
@@ -34,7 +36,7 @@ use Rattle.demands.proofs.NearWas.{
   read-kept,
 }
 use Rattle.demands.proofs.Rounds.{round, turns-kept, round-read}
-use Rattle.demands.proofs.TooMany.{burst-lost, flipped-burst, flipped-lost}
+use Rattle.demands.proofs.TooMany.{other-bool, burst-lost, more-burst, flipped-lost}
 
 struck-near : (layout : Layout) (image spoiled : List ℕ) (struck : Struck layout image spoiled) → NearWas layout image (struck .valid) spoiled
 struck-near layout image spoiled struck =
@@ -95,16 +97,14 @@ fresh-lost image layout answer after p z =
     (omega (arith, rows-least (shapeOf layout)))
     (omega arith))
 
--- ---- bytes
-
-bytes-from-any : (s start n at : ℕ) → n + 3 ≤ 4 * s → Within n start at → Within s (start / 4) (at / 4)
-bytes-from-any s start n at few w = (omega (arith, w .0), omega (arith, w .1))
-
-bytes-from-word : (s word n at : ℕ) → n ≤ 4 * s → Within n (4 * word) at → Within s word (at / 4)
-bytes-from-word s word n at few w = (omega (arith, w .0), omega (arith, w .1))
-
-bytes-more : (s word : ℕ) → 1 ≤ s → (last : ℕ) × Within (4 * s - 2) (4 * word + 3) last × (last / 4 ≡ (4 * word + 3) / 4 + s)
-bytes-more s word some = (4 * word + 4 * s, (omega arith, omega arith), omega arith)
+else-kept : (layout : Layout) (image spoiled : List ℕ) (all : AllValid layout image)
+    (start : ℕ) → Burst (wordsFrom (suc (layout .s)) start) image spoiled
+    → ((block k i : ℕ) → RowsPair layout k → i < 32 → index layout block (suc k) ≡ start → Changed i start image spoiled
+    → Changed i (start + layout .s) image spoiled
+    → ⊥)
+    → NearWas layout image all spoiled
+else-kept layout image spoiled all start burst lone =
+    wider-leaves layout image all start spoiled burst (λ block k i pair low same u v. lone block k i pair low same (other-bool _ _ u) (other-bool _ _ v))
 
 pub bursts : Bursts
 unfolding turns
@@ -125,13 +125,17 @@ bursts =
       too-many = λ layout image spoiled all block k i inside pair low.
           burst-lost layout image all block k i inside (omega (arith, pair)) low spoiled;
       tight = λ layout image all block k i inside pair low. (
-        flipped-burst layout image all block k i inside pair low (suc (layout .s)),
+        more-burst layout image all block k i inside pair low,
         flipped-lost layout image all block k i inside pair low,
       );
       tight-fresh = fresh-lost;
+      no-gap-words = λ layout at i n start more. omega (arith, more .0);
+      no-gap-bytes = λ layout place at i n start more. omega (arith, more .0);
+      else-kept = λ layout image spoiled all start burst lone order after every v.
+          order-restores layout image all order spoiled after (else-kept layout image spoiled all start burst lone) every v;
       border = λ layout image spoiled all block burst order after every v.
           order-restores layout image all order spoiled after (border-leaves layout image all block spoiled burst) every v;
-      bytes-from-word = bytes-from-word;
-      bytes-from-any = bytes-from-any;
-      bytes-more = bytes-more;
+      bytes-from-word = λ place s word n at i four few hit. (omega (arith, hit .0), omega (arith, hit .1));
+      bytes-from-any = λ place s start n at i four few hit. (omega (arith, hit .0), omega (arith, hit .1));
+      bytes-more = λ s word some. ((omega arith, omega arith), (omega arith, omega arith));
     }

@@ -37,7 +37,7 @@ use Rattle.store.proofs.Image.{length-rows, rows-row, rows-words}
 use Rattle.store.proofs.Ladder.{data-accepted}
 use Rattle.store.proofs.Promises.{visits}
 use Rattle.demands.specs.Demand2.{Meant, Visiting, SaysLost}
-use Rattle.demands.specs.Burst.{AllValid, Within, Reach, wordsFrom, bytesFrom, Hit, Short, Burst, VisitsInOrder, Comes, EveryBlock}
+use Rattle.demands.specs.Burst.{AllValid, Within, Reach, wordsFrom, bytesFrom, Hit, Short, Burst, RowsPair, VisitsInOrder, Comes, EveryBlock}
 use Rattle.demands.proofs.Demand2.{demand-2}
 use Rattle.demands.specs.Steps.{flipped}
 use Rattle.demands.proofs.Flips.{length-flipped, flipped-words, other-bit}
@@ -46,10 +46,14 @@ use Rattle.demands.proofs.SameBlocks.{same-apart, same-data}
 
 -- ---- a lane of a block, some bits changed
 
+-- bit i of a word is not what it was
+abbrev pub Differs : (i at : ℕ) → (image spoiled : List ℕ) → Type 0
+Differs i at image spoiled = bit i (getD spoiled at 0) ≡ bit i (getD image at 0) → ⊥
+
 module _ (layout : Layout) (image spoiled : List ℕ) (block i : ℕ) where
-  -- it is changed in row k + 1
+  -- it is so in row k + 1
   abbrev Off : ℕ → Type 0
-  Off k = bit i (getD spoiled (index layout block (suc k)) 0) ≡ bit i (getD image (index layout block (suc k)) 0) → ⊥
+  Off k = Differs i (index layout block (suc k)) image spoiled
 
   abbrev offs : ℕ → Bool
   offs = diff (lane i (storedRows layout block spoiled)) (lane i (storedRows layout block image))
@@ -78,8 +82,8 @@ hit? (wordsFrom n start) at i = within? n start at
 hit? (bytesFrom place n start) at i = within? n start (4 * at + place (i / 8))
 
 -- a bit that is changed is one of the burst's
-pub off-hit : (reach : Reach) (image spoiled : List ℕ) → Burst reach image spoiled
-    → (at i : ℕ) → (bit i (getD spoiled at 0) ≡ bit i (getD image at 0) → ⊥) → Hit reach at i
+off-hit : (reach : Reach) (image spoiled : List ℕ) → Burst reach image spoiled
+    → (at i : ℕ) → Differs i at image spoiled → Hit reach at i
 off-hit reach image spoiled burst at i off = by-cases (hit? reach at i) (λ w. w) (λ ne. absurd (off (burst .elsewhere at i ne)))
 
 -- it is too short to hit the same bit of two words that are s apart
@@ -87,7 +91,7 @@ hits-near : (layout : Layout) (reach : Reach) → Short layout reach → (a b i 
 hits-near layout (wordsFrom n start) short a b i far u v = omega (arith, short, u .0, v .1)
 hits-near layout (bytesFrom place n start) short a b i far u v = omega (arith, short, u .0, v .1)
 
--- one more flip of it is of it
+-- with one more of its bits flipped it is a burst there still
 pub burst-flip : (reach : Reach) (image spoiled : List ℕ) (at nth : ℕ) → Hit reach at nth → Burst reach image spoiled
     → Burst reach image (flipped at nth spoiled)
 burst-flip reach image spoiled at nth hit burst =
@@ -132,29 +136,43 @@ module _ (layout : Layout) (image : List ℕ) (all : AllValid layout image) wher
             (off-hit reach image spoiled burst (index layout block (suc k)) i v));
       }
 
-  -- from a block's last row on, the word s further is no row of it
+  -- s + 1 words, where the first and the last are no two rows of a block with a bit changed in common
+  module _ (start : ℕ) (spoiled : List ℕ) (burst : Burst (wordsFrom (suc (layout .s)) start) image spoiled) where
+    pub wider-leaves : ((block k i : ℕ) → RowsPair layout k → i < 32 → index layout block (suc k) ≡ start
+        → Differs i start image spoiled
+        → Differs i (start + layout .s) image spoiled
+        → ⊥)
+        → NearWas spoiled
+    wider-leaves lone =
+        record {
+          size = burst .size;
+          words = burst .words;
+          near = λ block h i l.
+              lone-near layout image spoiled block i
+              (λ j k m b u v.
+              let reach = wordsFrom (suc (layout .s)) start in
+              let first = off-hit reach image spoiled burst (index layout block (suc j)) i u in
+              let last = off-hit reach image spoiled burst (index layout block (suc k)) i v in
+              let far = rows-apart layout block j k m in
+              let at-first : index layout block (suc j) ≡ start = omega (arith, first .0, last .1, far) in
+              let at-last : index layout block (suc k) ≡ start + layout .s = omega (arith, first .0, last .1, far) in
+              lone block j i (omega arith) l at-first (subst (λ (at : ℕ). Differs i at image spoiled) at-first u)
+              (subst (λ (at : ℕ). Differs i at image spoiled) at-last v));
+        }
+
+  -- from a block's last row on they are not
   pub border-leaves : (block : ℕ) (spoiled : List ℕ) → Burst (wordsFrom (suc (layout .s)) (index layout block (rowsOf layout))) image spoiled
       → NearWas spoiled
   border-leaves last spoiled burst =
-      record {
-        size = burst .size;
-        words = burst .words;
-        near = λ block h i l.
-            lone-near layout image spoiled block i
-            (λ j k m b u v.
-            let reach = wordsFrom (suc (layout .s)) (index layout last (rowsOf layout)) in
-            let first = off-hit reach image spoiled burst (index layout block (suc j)) i u in
-            let second = off-hit reach image spoiled burst (index layout block (suc k)) i v in
-            let far = rows-apart layout block j k m in
-            let same : index layout block (suc j) ≡ index layout last (rowsOf layout) = omega (arith, first .0, second .1, far) in
-            let q =
-            one-to-one (rowsOf layout) (layout .s) (interleaved layout (length image) (all .fits)) block (suc j) last (rowsOf layout) (omega arith)
-            (omega arith)
-            (omega arith)
-            (omega arith)
-            same in
-            omega (arith, q .1));
-      }
+      wider-leaves (index layout last (rowsOf layout)) spoiled burst
+      (λ block k i pair low same u v.
+      let q =
+      one-to-one (rowsOf layout) (layout .s) (interleaved layout (length image) (all .fits)) block (suc k) last (rowsOf layout) (omega arith)
+      (omega (arith, pair))
+      (omega arith)
+      (omega arith)
+      same in
+      omega (arith, q .1, pair))
 
   -- where every block is as it was, the image is
   pub all-as-was : (now : List ℕ) → length now ≡ length image → ((block : ℕ) → block < blocks layout → AsWas block now) → now ≡ image
@@ -173,7 +191,7 @@ module _ (layout : Layout) (image : List ℕ) (all : AllValid layout image) wher
   -- ---- a visit
 
   module _ (now : List ℕ) (ok : NearWas now) (block : ℕ) where
-    pub meant : block < blocks layout → Meant shape (stored block now) (stored block image)
+    meant : block < blocks layout → Meant shape (stored block now) (stored block image)
     meant h =
         record {
           whole = rw (length-rows layout block image) (rows-fit shape);

@@ -47,10 +47,11 @@ use Rattle.demands.proofs.NearWas.{
 }
 use Rattle.demands.proofs.Splits.{split-append}
 
+-- where each is such, so is each after the first
 each-rest : (Such : Step → Type 0) (step : Step) (rest : List Step) → Each Such (step ∷ rest) → Each Such rest
 each-rest Such step rest each first later next e = each (step ∷ first) later next (ap (λ (l : List Step). step ∷ l) e)
 
--- and so are those before and after one of them
+-- where each step is such, so is each before one of them and each after it
 each-split : (Such : Step → Type 0) (steps first rest : List Step) (step : Step) → Each Such steps → steps ≡ first ++ step ∷ rest
     → Each Such first × Each Such rest
 each-split Such steps first rest step each e = (

@@ -1,4 +1,4 @@
--- s + 1 neighbouring words hold two rows of one block: where the same bit of both is changed, no valid block is within one bit a lane. Assumes nothing.
+-- s + 1 neighbouring words hold two rows of a block, where no group ends between: with the same bit of both changed, no valid block is near. Assumes nothing.
 use Prim.Native.Nat.{ℕ, zero, suc, _+_, _≤_, _<_}
 use mathlib.Core.Bool.{Bool, true, false, not}
 use mathlib.Core.Path.{_≡_, refl, sym, ap, subst, _∙_}
@@ -42,6 +42,13 @@ use Rattle.demands.proofs.NearWas.{lone-near, within?, burst-flip, burs
     go false = refl
     go true = refl
 
+-- a bit that is not what it was is the other one
+pub other-bool : (a b : Bool) → (a ≡ b → ⊥) → a ≡ not b
+other-bool false false ne = absurd (ne refl)
+other-bool false true ne = refl
+other-bool true false ne = refl
+other-bool true true ne = absurd (ne refl)
+
 -- rows k + 1 and k + 2 of a block, the second s words after the first
 module _ (layout : Layout) (image : List ℕ) (all : AllValid layout image) (block k i : ℕ) (inside : block < blocks layout) (high : suc k < rowsOf layout)
     (low : i < 32) where
@@ -80,7 +87,7 @@ module _ (layout : Layout) (image : List ℕ) (all : AllValid layout image) (blo
     mid-first : getD mid start 0 ≡ getD image start 0
     mid-first = getD-set-same spoiled start (getD image start 0) 0 (rw size first-inside)
 
-    -- it differs from the spoiled one in one word, and from the one that was in s others: so in one row of the block each
+    -- in this lane it differs from the spoiled one in one word, and from the one that was in s others: so in one row of the block each
     first-off : apart m (lane i (storedRows layout block mid)) (lane i now) ≤ 1
     first-off =
         lone-near layout spoiled mid block i
@@ -114,7 +121,7 @@ module _ (layout : Layout) (image : List ℕ) (all : AllValid layout image) (blo
             by-cases (within? (suc (layout .s)) start at) (λ w. (omega (arith, w .0, ne), omega (arith, w .1)))
             (λ out. absurd (off (ap (bit i) (mid-word at ne) ∙ elsewhere at out))))
 
-    -- so a lane is changed in at most two bits
+    -- so the lane is changed in at most two bits
     two-off : apart m (lane i now) (lane i was) ≤ 2
     two-off = omega (arith, first-off, others-off, apart-between m (lane i (storedRows layout block mid)) (lane i now) (lane i was))
 
@@ -146,7 +153,7 @@ module _ (layout : Layout) (image : List ℕ) (all : AllValid layout image) (blo
         let visiting = demand-2 .visit spoiled layout block answer after small v (v .answers .number ∙ passed) in
         let says = visiting .mends .lost .1 none-meant in (says, visiting .lost-unaltered says)
 
-  -- one more than short, it hits no other word of the lane
+  -- with one more than s words, or than 4·s bytes, bit i is hit in s + 1 words at most
   one-more : (reach : Reach) → OneMore layout start i reach → (at : ℕ) → Hit reach at i → Within (suc (layout .s)) start at
   one-more (wordsFrom n from) more at hit = (omega (arith, more .1, hit .0), omega (arith, more .0, more .1, hit .1))
   one-more (bytesFrom place n from) more at hit = (omega (arith, more .1, hit .0), omega (arith, more .0, more .1, hit .1))
@@ -159,20 +166,28 @@ module _ (layout : Layout) (image : List ℕ) (all : AllValid layout image) (blo
 
   -- ---- one bit flipped in each of n words
 
-  pub flipped-burst : (n : ℕ) → Burst (wordsFrom n start) image (flippedIn i n start image)
+  flipped-burst : (reach : Reach) (n : ℕ) → ((k : ℕ) → k < n → Hit reach (start + k) i) → Burst reach image (flippedIn i n start image)
   unfolding flippedIn
-  flipped-burst zero = burst-none (wordsFrom 0 start) image (all .words)
-  flipped-burst (suc n) =
-      let b = flipped-burst n in
-      burst-flip (wordsFrom (suc n) start) image (flippedIn i n start image) (start + n) i (omega arith, omega arith)
-      (record { size = b .size; words = b .words; elsewhere = λ at j ne. b .elsewhere at j (λ w. ne (w .0, omega (arith, w .1))) })
+  flipped-burst reach zero hits = burst-none reach image (all .words)
+  flipped-burst reach (suc n) hits =
+      burst-flip reach image (flippedIn i n start image) (start + n) i (hits n (omega arith)) (flipped-burst reach n (λ k h. hits k (omega arith)))
+
+  words-hit : (n k : ℕ) → k < n → Hit (wordsFrom n start) (start + k) i
+  words-hit n k h = (omega arith, omega arith)
+
+  more-hit : (reach : Reach) → OneMore layout start i reach → (k : ℕ) → k < suc (layout .s) → Hit reach (start + k) i
+  more-hit (wordsFrom n from) more k h = (omega (arith, more .1), omega (arith, more .0, more .1))
+  more-hit (bytesFrom place n from) more k h = (omega (arith, more .1), omega (arith, more .0, more .1))
+
+  pub more-burst : (reach : Reach) → OneMore layout start i reach → Burst reach image (flippedIn i (suc (layout .s)) start image)
+  more-burst reach more = flipped-burst reach (suc (layout .s)) (more-hit reach more)
 
   flipped-changed : (n j : ℕ) → j < n → start + j < length image → Changed i (start + j) image (flippedIn i n start image)
   unfolding flippedIn
   flipped-changed zero j h l = absurd (omega arith)
   flipped-changed (suc n) j h l =
       let x = flippedIn i n start image in
-      let b = flipped-burst n in
+      let b = flipped-burst (wordsFrom n start) n (words-hit n) in
       by-cases (ℕ-discrete j n)
       (λ e.
       rw e (this-bit (start + n) i x low (rw (b .size, ← e) l) ∙ ap not (b .elsewhere (start + n) i (λ w. omega (arith, w .1)))))
@@ -183,6 +198,6 @@ module _ (layout : Layout) (image : List ℕ) (all : AllValid layout image) (blo
       let s = layout .s in
       let left = flippedIn i (suc s) start image in
       let first = flipped-changed (suc s) 0 (omega arith) (omega (arith, first-inside)) in
-      burst-lost left (wordsFrom (suc s) start) (refl, refl) (flipped-burst (suc s))
+      burst-lost left (wordsFrom (suc s) start) (refl, refl) (more-burst (wordsFrom (suc s) start) (refl, refl))
       (subst (λ (at : ℕ). Changed i at image left) (add-zero start) first)
       (flipped-changed (suc s) s (omega arith) last-inside)

@@ -155,7 +155,7 @@ pub record Sparked (image : List ℕ) (layout : Layout) (before spark since : Li
   pub quiet : Each (Quiet layout) since
 
 pub record Bursts : Type 0 where
-  -- every block is valid from the format on, and a write keeps it so, refused too
+  -- every block is valid right after a format, and a write with this layout keeps it so, refused too
   pub fresh-valid : (image : List ℕ) (layout : Layout) (answer : Formatted) (after : List ℕ) → Formats image layout answer after
       → answer .number ≡ 0
       → AllValid layout after
@@ -209,19 +209,38 @@ pub record Bursts : Type 0 where
   -- the same bit flipped in each of s + 1 words is such a burst: for both shapes, every s, every block and every row but its last
   pub tight : (layout : Layout) (image : List ℕ) → AllValid layout image
       → (block k i : ℕ) → block < blocks layout → RowsPair layout k → i < 32
-      → Burst (wordsFrom (suc (layout .s)) (index layout block (suc k))) image (flippedIn i (suc (layout .s)) (index layout block (suc k)) image)
+      → ((reach : Reach) → OneMore layout (index layout block (suc k)) i reach
+      → Burst reach image (flippedIn i (suc (layout .s)) (index layout block (suc k)) image))
       × Loses layout block (flippedIn i (suc (layout .s)) (index layout block (suc k)) image)
   -- so of every image that was formatted, with bit 0 flipped in its first s + 1 words, block 0 is lost
   pub tight-fresh : (image : List ℕ) (layout : Layout) (answer : Formatted) (after : List ℕ) → Formats image layout answer after
       → answer .number ≡ 0
       → Loses layout 0 (flippedIn 0 (suc (layout .s)) 0 after)
-  -- but s + 1 words from a block's last row on, where its group ends, are of s + 1 blocks, and are mended whole
+  -- nothing lies between: one less than too many is few enough
+  pub no-gap-words : (layout : Layout) (at i n start : ℕ) → OneMore layout at i (wordsFrom (suc n) start) → Short layout (wordsFrom n start)
+  pub no-gap-bytes : (layout : Layout) (place : ℕ → ℕ) (at i n start : ℕ) → OneMore layout at i (bytesFrom place (suc n) start)
+      → Short layout (bytesFrom place n start)
+  -- s + 1 words lose a block in that way alone: they are mended whole where the first and the last have no bit changed in common, or are of two blocks
+  pub else-kept : (layout : Layout) (image spoiled : List ℕ) → AllValid layout image
+      → (start : ℕ) → Burst (wordsFrom (suc (layout .s)) start) image spoiled
+      → ((block k i : ℕ) → RowsPair layout k → i < 32 → index layout block (suc k) ≡ start
+      → Changed i start image spoiled
+      → Changed i (start + layout .s) image spoiled
+      → ⊥)
+      → (order after : List ℕ) → EveryBlock layout order → VisitsInOrder layout order spoiled after
+      → after ≡ image
+  -- as from a block's last row on, where its group ends
   pub border : (layout : Layout) (image spoiled : List ℕ) → AllValid layout image
       → (block : ℕ) → Burst (wordsFrom (suc (layout .s)) (index layout block (rowsOf layout))) image spoiled
       → (order after : List ℕ) → EveryBlock layout order → VisitsInOrder layout order spoiled after
       → after ≡ image
-  -- how many bytes are at most s words: 4·s from a word's start on, and 4·s − 3 from anywhere; one more from a word's last byte on is not
-  pub bytes-from-word : (s word n at : ℕ) → n ≤ 4 * s → Within n (4 * word) at → Within s word (at / 4)
-  pub bytes-from-any : (s start n at : ℕ) → n + 3 ≤ 4 * s → Within n start at → Within s (start / 4) (at / 4)
+  -- how many bytes are at most s words: 4·s from a word's start on, and 4·s − 3 from anywhere; one more, from a word's last byte on, reaches the
+  -- word s further on
+  pub bytes-from-word : (place : ℕ → ℕ) (s word n at i : ℕ) → place (i / 8) < 4 → n ≤ 4 * s
+      → Hit (bytesFrom place n (4 * word)) at i
+      → Hit (wordsFrom s word) at i
+  pub bytes-from-any : (place : ℕ → ℕ) (s start n at i : ℕ) → place (i / 8) < 4 → n + 3 ≤ 4 * s
+      → Hit (bytesFrom place n start) at i
+      → Hit (wordsFrom s (start / 4)) at i
   pub bytes-more : (s word : ℕ) → 1 ≤ s
-      → (last : ℕ) × Within (4 * s - 2) (4 * word + 3) last × (last / 4 ≡ (4 * word + 3) / 4 + s)
+      → Hit (bytesFrom (λ b. b) (4 * s - 2) (4 * word + 3)) word 24 × Hit (bytesFrom (λ b. b) (4 * s - 2) (4 * word + 3)) (word + s) 0

@@ -11,9 +11,9 @@ use Rattle.lane.proofs.Distance.{empty}
 use Rattle.lane.proofs.Linear.{count-same}
 use Rattle.lane.proofs.Mended.{count-empty}
 
-not-true : (b : Bool) → (b ≡ true → ⊥) → b ≡ false
-not-true true ne = absurd (ne refl)
-not-true false ne = refl
+is-false : (b : Bool) → (b ≡ true → ⊥) → b ≡ false
+is-false true ne = absurd (ne refl)
+is-false false ne = refl
 
 -- no two rows with a one
 pub count-once : (n : ℕ) (f : Lane) → ((j k : ℕ) → j < k → k < n → f (suc j) ≡ true → f (suc k) ≡ true → ⊥) → count n f ≤ 1
@@ -22,7 +22,7 @@ count-once zero f h = omega arith
 count-once (suc n) f h = go (f (suc n)) refl (count-once n f (λ j k l b. h j k l (omega arith)))
   where
     go : (b : Bool) → f (suc n) ≡ b → count n f ≤ 1 → count n f + pick b 1 ≤ 1
-    go true e c = let z = count-same n f (λ p. false) (λ j l. not-true (f (suc j)) (λ t. h j n l (omega arith) t e)) ∙ count-empty n in omega arith
+    go true e c = let z = count-same n f (λ p. false) (λ j l. is-false (f (suc j)) (λ t. h j n l (omega arith) t e)) ∙ count-empty n in omega arith
     go false e c = omega arith
 
 -- a one in a single row at most
