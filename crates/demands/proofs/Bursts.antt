@@ -1,5 +1,5 @@
 -- A burst of at most s neighbouring words, or 4·s bytes, is mended whole, and one more can lose a block. Assumes nothing.
-use Prim.Native.Nat.{ℕ, suc, _+_, _-_, _*_, _/_, _≤_, _<_}
+use Prim.Native.Nat.{ℕ, suc, _+_, _*_, _<_}
 use mathlib.Core.Path.{_≡_, refl, sym, ap, subst, _∙_}
 use mathlib.Core.List.{List}
 use mathlib.Core.Logic.{_⊎_, inl}
@@ -26,7 +26,6 @@ use Rattle.demands.proofs.NearWas.{
   NearWas,
   AsWas,
   burst-leaves,
-  wider-leaves,
   wider-leaves,
   border-leaves,
   order-leaves,
