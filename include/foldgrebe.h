@@ -7,7 +7,8 @@
    set to zero is no image: format it.
    An image has N = s * g blocks (s from 1 to 16, N at most 4096) and exactly rows * N words. Blocks are numbered from 0.
    s neighbouring words belong to s different blocks. So where every block is valid and any bits of up to s neighbouring words
-   are then spoiled, no block is lost, and visits of all of them, or N turns, leave the image as it was.
+   are then spoiled, no block is lost, and visits of all of them, or N turns, leave the image as it was, if nothing is written
+   or flipped meanwhile.
 
    Use: format once, write and read blocks by number, and call turn again and again, which patrols the image: each turn
    visits (checks and mends) the next block and one block that was asked for. If at least N turns lie between two flips

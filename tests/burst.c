@@ -1,8 +1,8 @@
 /* What a burst can do. A store is filled, neighbouring words are spoiled, and every block is visited once, in any order, or by
    N turns of the patrol. Up to s words, or 4 * s bytes from anywhere: every read straight after and on the way gives what was
-   written, no visit says lost, and the image ends as it was. s + 1 words: a block is lost exactly if the first and the last of
-   them are rows of it and have a changed bit in common; what became of them is told. Only the library's answers are used, and
-   where the rows lie.
+   written, no visit says lost, and the image ends as it was. s + 1 words, or 4 * s + 1 bytes: a block is lost exactly if the
+   first and the last of them are of rows of it and have a changed bit in common; what became of them is told. Only the library's
+   answers are used, and where the rows lie.
 
    burst SEED ROUNDS   so many rounds on each shape and each s; exits 1 at the first wrong answer. */
 #include <stdio.h>
@@ -17,7 +17,7 @@ static uint32_t image[MOST_BLOCKS * MOST_ROWS], whole[MOST_BLOCKS * MOST_ROWS], 
 static size_t words;
 static uint32_t record[FOLDGREBE_RECORD_WORDS];
 static uint32_t meant[MOST_BLOCKS][MOST_DATA];                          /* what was written */
-static uint64_t word_bursts, byte_bursts, crossings, by_turns, long_lost, long_apart, long_border;
+static uint64_t word_bursts, byte_bursts, crossings, by_turns, long_lost, long_bytes_lost, long_apart, long_border;
 static uint64_t random_state, seed;
 
 static uint64_t random_number(void)
@@ -117,6 +117,13 @@ static void read_all(void)
     for (uint32_t block = 0; block < n; block++) read_one(block);
 }
 
+/* Nothing but the rows of one block has changed since the copy. */
+static int others_kept(uint32_t block)
+{
+    for (uint32_t row = 1; row <= rows; row++) spoiled[index_of(block, row)] = image[index_of(block, row)];
+    return memcmp(image, spoiled, sizeof image) == 0;
+}
+
 /* A block is visited; one that must be lost is, in these lanes, and no word changes. */
 static void visit_one(uint32_t block, int lost, uint32_t lanes)
 {
@@ -126,6 +133,7 @@ static void visit_one(uint32_t block, int lost, uint32_t lanes)
     if (!lost) {
         expect_kept(block, verdict, bits);
         expect(bits_off(block) == 0, "a visited block is not what it was", block);
+        expect(others_kept(block), "a visit altered another block", block);
         return;
     }
     expect(verdict[FOLDGREBE_VERDICT_NUMBER] == FOLDGREBE_LOST && verdict[FOLDGREBE_VERDICT_COUNT] == ones(lanes) &&
@@ -167,6 +175,7 @@ static void turn_all(void)
         expect(foldgrebe_turn(record, image, words, report) == 0, "turn refused", next);
         expect_report(report, next, bits);
         if (asks) expect_report(report + FOLDGREBE_REPORT_ASK_BLOCK, asked, more);
+        else expect(report[FOLDGREBE_REPORT_ASK_BLOCK] == 0 && report[FOLDGREBE_REPORT_ASK_VERDICT] == 0, "a turn serves an ask of nobody", next);
         if (below(4) == 0) read_one(below(n));
     }
     by_turns++;
@@ -189,22 +198,37 @@ static void burst_up_to_s(void)
 }
 
 /* The first and the last of s + 1 words are s apart: rows of one block, but where a group ends between them. */
-static void burst_one_more(void)
+static void expect_one_more(size_t start, uint64_t *losses)
 {
-    size_t start = some_start(s + 1), last = start + s;
-    for (size_t i = start; i <= last; i++) image[i] ^= some_bits();
+    size_t last = start + s;
     int one_block = start / s % rows != rows - 1;
     uint32_t common = (image[start] ^ whole[start]) & (image[last] ^ whole[last]);
     uint32_t block = (uint32_t)(start / s / rows * s + start % s);
     if (one_block && common) {
         visit_all((int)block, common);
         for (uint32_t other = 0; other < n; other++) expect(other == block || bits_off(other) == 0, "a block beside the lost one is not mended", other);
-        long_lost++;
+        *losses += 1;
     } else {
         visit_all(NONE, 0);
         expect_whole();
         *(one_block ? &long_apart : &long_border) += 1;
     }
+}
+
+static void burst_one_more_word(void)
+{
+    size_t start = some_start(s + 1);
+    for (size_t i = start; i <= start + s; i++) image[i] ^= some_bits();
+    expect_one_more(start, &long_lost);
+}
+
+/* 4 * s + 1 bytes begin and end with the same byte of two words that are s apart. */
+static void burst_one_more_byte(void)
+{
+    uint8_t *bytes = (uint8_t *)image;
+    size_t start = below((uint32_t)(4 * (words - s)));
+    for (size_t i = start; i <= start + 4 * s; i++) bytes[i] ^= (uint8_t)random_number();
+    expect_one_more(start / 4, &long_bytes_lost);
 }
 
 static void one_store(void)
@@ -215,7 +239,9 @@ static void one_store(void)
     fill_store();
     burst_up_to_s();
     if (below(2)) fill_store();
-    burst_one_more();
+    burst_one_more_word();
+    fill_store();
+    burst_one_more_byte();
 }
 
 int main(int count, char **arguments)
@@ -225,11 +251,11 @@ int main(int count, char **arguments)
     for (unsigned long rounds = strtoul(arguments[2], 0, 10); rounds--;)
         for (shape = 1; shape <= 2; shape++)
             for (s = 1; s <= MOST_S; s++) one_store();
-    printf("burst: %llu of up to s words, %llu of them across a group border, and %llu of up to 4s bytes mended whole, %llu of these by turns; of s + 1 "
-           "words %llu lost a block, %llu had no bit in common there, %llu lay across a group border\n", (unsigned long long)word_bursts,
-           (unsigned long long)crossings, (unsigned long long)byte_bursts, (unsigned long long)by_turns, (unsigned long long)long_lost,
-           (unsigned long long)long_apart, (unsigned long long)long_border);
-    int seen = word_bursts && crossings && byte_bursts && by_turns && long_lost && long_apart && long_border;
+    printf("burst: %llu of up to s words, %llu of them across a group border, and %llu of up to 4s bytes mended whole, %llu of these by turns; one word more "
+           "lost a block %llu times, one byte more %llu times; both, %llu times no bit was in common there, and %llu times a group ended between\n",
+           (unsigned long long)word_bursts, (unsigned long long)crossings, (unsigned long long)byte_bursts, (unsigned long long)by_turns,
+           (unsigned long long)long_lost, (unsigned long long)long_bytes_lost, (unsigned long long)long_apart, (unsigned long long)long_border);
+    int seen = word_bursts && crossings && byte_bursts && by_turns && long_lost && long_bytes_lost && long_apart && long_border;
     if (!seen) printf("burst: some kind never came\n");
     return !seen;
 }
