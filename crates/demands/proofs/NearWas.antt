@@ -66,9 +66,17 @@ module _ (layout : Layout) (image spoiled : List ℕ) (block i : ℕ) where
       true≢false (sym t ∙ ap (λ (b : Bool). b ⊕ was) (stored spoiled ∙ same ∙ sym (stored image)) ∙ ⊕-self was)
 
   -- changed in no two rows, it is off by at most one bit
-  pub lone-near : ((j k : ℕ) → j < k → k < rowsOf layout → Off j → Off k → ⊥)
+  lone-near : ((j k : ℕ) → j < k → k < rowsOf layout → Off j → Off k → ⊥)
       → apart (before (shapeOf layout)) (lane i (storedRows layout block spoiled)) (lane i (storedRows layout block image)) ≤ 1
   lone-near lone = count-once (rowsOf layout) offs (λ j k l h t u. lone j k l h (off-row j (omega arith) t) (off-row k h u))
+
+  -- changed in s neighbouring words alone, it is too
+  pub window-near : (start : ℕ) → ((at : ℕ) → Differs i at image spoiled → Within (layout .s) start at)
+      → apart (before (shapeOf layout)) (lane i (storedRows layout block spoiled)) (lane i (storedRows layout block image)) ≤ 1
+  window-near start window =
+      lone-near
+      (λ j k l h u v.
+      omega (arith, window (index layout block (suc j)) u .0, window (index layout block (suc k)) v .1, rows-apart layout block j k l))
 
 -- ---- a burst
 
@@ -123,18 +131,31 @@ module _ (layout : Layout) (image : List ℕ) (all : AllValid layout image) wher
   abbrev pub AsWas : ℕ → List ℕ → Type 0
   AsWas block now = SameRows shape (stored block now) (stored block image)
 
-  pub burst-leaves : (reach : Reach) (spoiled : List ℕ) → Short layout reach → Burst reach image spoiled → NearWas spoiled
-  burst-leaves reach spoiled short burst =
+  -- a burst that changes no lane of a block in two rows
+  lone-leaves : (reach : Reach) (spoiled : List ℕ) → Burst reach image spoiled
+      → ((block j k i : ℕ) → j < k → k < rowsOf layout → i < 32 → Hit reach (index layout block (suc j)) i → Hit reach (index layout block (suc k)) i
+      → Differs i (index layout block (suc j)) image spoiled
+      → Differs i (index layout block (suc k)) image spoiled
+      → ⊥)
+      → NearWas spoiled
+  lone-leaves reach spoiled burst lone =
       record {
         size = burst .size;
         words = burst .words;
-        near = λ block h i l.
+        near = λ block h i low.
             lone-near layout image spoiled block i
-            (λ j k m b u v.
-            hits-near layout reach short (index layout block (suc j)) (index layout block (suc k)) i (rows-apart layout block j k m)
-            (off-hit reach image spoiled burst (index layout block (suc j)) i u)
-            (off-hit reach image spoiled burst (index layout block (suc k)) i v));
+            (λ j k l b u v.
+            lone block j k i l b low (off-hit reach image spoiled burst (index layout block (suc j)) i u)
+            (off-hit reach image spoiled burst (index layout block (suc k)) i v)
+            u
+            v);
       }
+
+  pub burst-leaves : (reach : Reach) (spoiled : List ℕ) → Short layout reach → Burst reach image spoiled → NearWas spoiled
+  burst-leaves reach spoiled short burst =
+      lone-leaves reach spoiled burst
+      (λ block j k i l b low first last u v.
+      hits-near layout reach short (index layout block (suc j)) (index layout block (suc k)) i (rows-apart layout block j k l) first last)
 
   -- s + 1 words, where the first and the last are no two rows of a block with a bit changed in common
   module _ (start : ℕ) (spoiled : List ℕ) (burst : Burst (wordsFrom (suc (layout .s)) start) image spoiled) where
@@ -144,21 +165,13 @@ module _ (layout : Layout) (image : List ℕ) (all : AllValid layout image) wher
         → ⊥)
         → NearWas spoiled
     wider-leaves lone =
-        record {
-          size = burst .size;
-          words = burst .words;
-          near = λ block h i l.
-              lone-near layout image spoiled block i
-              (λ j k m b u v.
-              let reach = wordsFrom (suc (layout .s)) start in
-              let first = off-hit reach image spoiled burst (index layout block (suc j)) i u in
-              let last = off-hit reach image spoiled burst (index layout block (suc k)) i v in
-              let far = rows-apart layout block j k m in
-              let at-first : index layout block (suc j) ≡ start = omega (arith, first .0, last .1, far) in
-              let at-last : index layout block (suc k) ≡ start + layout .s = omega (arith, first .0, last .1, far) in
-              lone block j i (omega arith) l at-first (subst (λ (at : ℕ). Differs i at image spoiled) at-first u)
-              (subst (λ (at : ℕ). Differs i at image spoiled) at-last v));
-        }
+        lone-leaves (wordsFrom (suc (layout .s)) start) spoiled burst
+        (λ block j k i l b low first last u v.
+        let far = rows-apart layout block j k l in
+        let at-first : index layout block (suc j) ≡ start = omega (arith, first .0, last .1, far) in
+        let at-last : index layout block (suc k) ≡ start + layout .s = omega (arith, first .0, last .1, far) in
+        lone block j i (omega arith) low at-first (subst (λ (at : ℕ). Differs i at image spoiled) at-first u)
+        (subst (λ (at : ℕ). Differs i at image spoiled) at-last v))
 
   -- from a block's last row on they are not
   pub border-leaves : (block : ℕ) (spoiled : List ℕ) → Burst (wordsFrom (suc (layout .s)) (index layout block (rowsOf layout))) image spoiled

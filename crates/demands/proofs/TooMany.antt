@@ -32,8 +32,7 @@ use Rattle.demands.specs.Demand2.{Meant}
 use Rattle.demands.specs.Burst.{AllValid, Within, Reach, wordsFrom, bytesFrom, Hit, Burst, OneMore, Changed, flippedIn, Loses}
 use Rattle.demands.proofs.Demand2.{demand-2}
 use Rattle.demands.proofs.Flips.{this-bit, other-bit}
-use Rattle.demands.proofs.Index.{rows-apart}
-use Rattle.demands.proofs.NearWas.{lone-near, within?, burst-flip, burst-none}
+use Rattle.demands.proofs.NearWas.{window-near, within?, burst-flip, burst-none}
 
 ⊕-not : (a b : Bool) → a ≡ not b → a ⊕ b ≡ true
 ⊕-not a b e = ap (λ (x : Bool). x ⊕ b) e ∙ go b
@@ -90,36 +89,19 @@ module _ (layout : Layout) (image : List ℕ) (all : AllValid layout image) (blo
     -- in this lane it differs from the spoiled one in one word, and from the one that was in s others: so in one row of the block each
     first-off : apart m (lane i (storedRows layout block mid)) (lane i now) ≤ 1
     first-off =
-        lone-near layout spoiled mid block i
-        (λ j l less h u v.
-        omega (
-          arith,
-          first-alone (index layout block (suc j)) u,
-          first-alone (index layout block (suc l)) v,
-          rows-apart layout block j l less,
-          interleaved layout (length image) (all .fits),
-        ))
-      where
-        first-alone : (at : ℕ) → (bit i (getD mid at 0) ≡ bit i (getD spoiled at 0) → ⊥) → at ≡ start
-        first-alone at off = by-cases (ℕ-discrete at start) (λ e. e) (λ ne. absurd (off (ap (bit i) (mid-word at ne))))
+        window-near layout spoiled mid block i start
+        (λ at off.
+        by-cases (ℕ-discrete at start) (λ e. (omega arith, omega (arith, interleaved layout (length image) (all .fits))))
+        (λ ne. absurd (off (ap (bit i) (mid-word at ne)))))
 
     others-off : apart m (lane i (storedRows layout block mid)) (lane i was) ≤ 1
     others-off =
-        lone-near layout image mid block i
-        (λ j l less h u v.
-        omega (
-          arith,
-          after-first (index layout block (suc j)) u .0,
-          after-first (index layout block (suc l)) v .1,
-          rows-apart layout block j l less,
-        ))
-      where
-        after-first : (at : ℕ) → (bit i (getD mid at 0) ≡ bit i (getD image at 0) → ⊥) → Within (layout .s) (suc start) at
-        after-first at off =
-            by-cases (ℕ-discrete at start) (λ e. absurd (off (ap (bit i) (rw e mid-first))))
-            (λ ne.
-            by-cases (within? (suc (layout .s)) start at) (λ w. (omega (arith, w .0, ne), omega (arith, w .1)))
-            (λ out. absurd (off (ap (bit i) (mid-word at ne) ∙ elsewhere at out))))
+        window-near layout image mid block i (suc start)
+        (λ at off.
+        by-cases (ℕ-discrete at start) (λ e. absurd (off (ap (bit i) (rw e mid-first))))
+        (λ ne.
+        by-cases (within? (suc (layout .s)) start at) (λ w. (omega (arith, w .0, ne), omega (arith, w .1)))
+        (λ out. absurd (off (ap (bit i) (mid-word at ne) ∙ elsewhere at out)))))
 
     -- so the lane is changed in at most two bits
     two-off : apart m (lane i now) (lane i was) ≤ 2
