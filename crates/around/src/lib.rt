@@ -1,4 +1,6 @@
 // Visits that mend a block around rows known dead, 32 lanes at once.
+#![tactic(auto)]
+
 mod naming;
 mod solving;
 mod visiting;

@@ -1,4 +1,6 @@
 // The code on one block, 32 lanes at once.
+#![tactic(auto)]
+
 mod coding;
 mod mending;
 mod tables;

@@ -1,4 +1,6 @@
 // Runs the specification's worked examples and stored vectors on the compiled code, and prints what came of them.
+#![tactic(auto)]
+
 mod answers;
 mod calls;
 mod filed;

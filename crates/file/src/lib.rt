@@ -1,4 +1,6 @@
 // The image file, both ways: its header, its refusals and its words.
+#![tactic(auto)]
+
 mod reading;
 mod refusals;
 mod writing;

@@ -1,4 +1,6 @@
 // What belongs to no subject.
+#![tactic(auto)]
+
 ghost use Rattle.ground.specs.Least.{IsLeast};
 
 // The smaller of two lengths.

@@ -1,4 +1,6 @@
 // Reads an image file from standard input and prints its report.
+#![tactic(auto)]
+
 use libc::{STDIN_FILENO, STDOUT_FILENO};
 use report::{INPUT_BYTES, REPORT_BYTES};
 

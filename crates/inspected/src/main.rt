@@ -1,4 +1,6 @@
 // Prints, of each file of data/, its name and what `inspect` prints of it.
+#![tactic(auto)]
+
 use libc::STDOUT_FILENO;
 use report::{INPUT_BYTES, REPORT_BYTES};
 

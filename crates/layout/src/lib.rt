@@ -1,4 +1,6 @@
 // How an image is laid out: its shape, interleave and groups; what is refused of it; where a block lies.
+#![tactic(auto)]
+
 mod locating;
 mod refusals;
 mod sizes;

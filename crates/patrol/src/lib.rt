@@ -1,4 +1,6 @@
 // The patrol: a record that is handed in and comes back, the call that makes it, and its two methods.
+#![tactic(auto)]
+
 mod asking;
 mod formatting;
 mod turning;

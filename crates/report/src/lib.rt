@@ -1,4 +1,6 @@
 // The report that is printed of an image file.
+#![tactic(auto)]
+
 mod lines;
 mod reporting;
 

@@ -1,4 +1,6 @@
 // The rota: whose go it is. It knows the block that is next and the blocks that wait, and no memory.
+#![tactic(auto)]
+
 mod line;
 
 ghost use Rattle.std.specs.Prelude.{◌≡◌, cond, ◌<◌, length, ltb};

@@ -1,4 +1,6 @@
 // The two shapes of a block: their rows and their data words, said once.
+#![tactic(auto)]
+
 ghost use Rattle.shape.specs.Shape.{CountsBefore, CountsRows, CountsWords};
 
 #[derive(Drop)]

@@ -1,4 +1,6 @@
 // Blocks in a lent image: the fresh image, write, read and visit.
+#![tactic(auto)]
+
 mod clearing;
 mod copies;
 mod doubt;

@@ -1,4 +1,6 @@
 // The form in which words are stored: those of rows 1 and 2 of every block are complemented, so that a dead chip is not a valid block.
+#![tactic(auto)]
+
 ghost use Rattle.std.specs.Prelude.{◌≡◌, ◌+◌, ◌≤◌, length, get_or};
 ghost use Rattle.std.specs.Int.Bits.{bit_xor};
 ghost use Rattle.ground.specs.Stores.{stores};

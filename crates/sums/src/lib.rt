@@ -1,5 +1,7 @@
 // The sums and the parities of 32 lanes at once, worked out over stored words where they lie.
 // A block is rows 1 to 3, groups of four rows, and the last: the columns give the last two binary digits of a row's number, the groups those before.
+#![tactic(auto)]
+
 ghost use Rattle.std.specs.Prelude.{◌≡◌, ◌+◌, ◌<◌, length, get_or, set};
 ghost use Rattle.shape.specs.declared.Shape.TheVariants.{Two};
 ghost use Rattle.ground.specs.Stores.{stores};

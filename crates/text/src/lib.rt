@@ -1,4 +1,6 @@
 // Texts, decimal numbers and lines in a lent buffer.
+#![tactic(auto)]
+
 mod numbers;
 mod texts;
 

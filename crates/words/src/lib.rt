@@ -1,4 +1,6 @@
 // Answers and records as words, and records back: what the face for C and the stored vectors share.
+#![tactic(auto)]
+
 mod answers;
 mod files;
 mod records;
