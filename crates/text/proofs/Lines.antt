@@ -84,7 +84,7 @@ with_all {room} {most} {at} {next} {text} {bytes} {after} line (part ∷ parts) 
     let middle = written part (page bytes at) in
     let both = length-append part (end_to_end parts) in
     let first = with_text {bytes = bytes} {after = middle.bytes} line part refl (omega arith) in
-    let whole = with_all {bytes = middle.bytes} {after = after} first parts e (omega arith) in
+    let whole = with_all {most = most + length part} {bytes = middle.bytes} {after = after} first parts e (omega arith) in
     let same = append_assoc text part (end_to_end parts) in
     record {
       place = whole.place ∙ ap length same;
