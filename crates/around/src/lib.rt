@@ -8,7 +8,7 @@ mod visiting;
 pub use visiting::visit_around;
 
 // What a visit around named rows answers.
-#[derive(Drop)]
+#[derive(Clone, Copy)]
 pub enum Around {
     // The number of the first rule that the arguments break.
     Refused(u32),

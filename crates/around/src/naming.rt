@@ -7,7 +7,7 @@ ghost use Rattle.around.specs.Inner.{first_rows, named_of};
 const MOST_NAMED: usize = 3;
 
 // The rows that are named, a 0 for each that is not; or why the list is refused.
-#[derive(Drop)]
+#[derive(Clone, Copy)]
 pub(crate) enum Named {
     // The number of the refusal.
     Wrong(u32),

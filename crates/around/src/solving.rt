@@ -6,7 +6,7 @@ ghost use Rattle.around.specs.Inner.{mark, changed_by, lanes_told, Marks, Solves
 use sums::{DIGITS, SUM_WORDS};
 
 // The lanes in which each of three rows is wrong.
-#[derive(Drop)]
+#[derive(Clone, Copy)]
 pub(crate) struct Told {
     pub a: u32,
     pub b: u32,

@@ -8,7 +8,7 @@ mod tables;
 pub use coding::{data_into, data_of, encode};
 pub use mending::{decide, mend};
 
-#[derive(Drop)]
+#[derive(Clone, Copy)]
 pub enum Verdict {
     Clean,
     // How many bits are changed.

@@ -10,7 +10,7 @@ pub use reading::{read_file, read_header, word_count};
 pub use writing::write_file;
 
 // What the header of a file says.
-#[derive(Drop)]
+#[derive(Clone, Copy)]
 pub enum Header {
     // The number of the first rule that the file breaks.
     Refused(u32),
@@ -19,7 +19,7 @@ pub enum Header {
 }
 
 // What the writer answers.
-#[derive(Drop)]
+#[derive(Clone, Copy)]
 pub enum Written {
     // The number of the first rule that is broken.
     Refused(u32),

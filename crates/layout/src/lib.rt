@@ -8,7 +8,7 @@ mod sizes;
 use shape::Shape;
 
 // The number of the shape, the interleave s, and the group count G.
-#[derive(Drop)]
+#[derive(Clone, Copy)]
 pub struct Layout {
     pub shape: u32,
     pub s: u32,
@@ -16,7 +16,7 @@ pub struct Layout {
 }
 
 // Where a block lies, or why it lies nowhere.
-#[derive(Drop)]
+#[derive(Clone, Copy)]
 pub enum Site {
     // The number of the refusal.
     Nowhere(u32),

@@ -13,7 +13,7 @@ pub const INPUT_BYTES: usize = 32769;
 pub const REPORT_BYTES: usize = 10204;
 
 // The blocks of each verdict, and all bits mended.
-#[derive(Drop)]
+#[derive(Clone, Copy)]
 pub(crate) struct Tally {
     pub(crate) clean: u32,
     pub(crate) mended: u32,

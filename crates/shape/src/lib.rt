@@ -3,7 +3,7 @@
 
 ghost use Rattle.shape.specs.Shape.{CountsBefore, CountsRows, CountsWords};
 
-#[derive(Drop)]
+#[derive(Clone, Copy)]
 pub enum Shape {
     One,
     Two,

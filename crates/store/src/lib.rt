@@ -15,7 +15,7 @@ pub use visiting::{visit, visit_accepted};
 pub use writing::write;
 
 // What a call answers.
-#[derive(Drop)]
+#[derive(Clone, Copy)]
 pub enum Answer {
     // The number of the first rule that the arguments break.
     Refused(u32),

@@ -32,7 +32,7 @@ fn keep(found: [u32; SUM_WORDS], sums: &mut [u32; SUM_WORDS]) -> u32
 }
 
 // The rows of a block by how their numbers end in binary.
-#[derive(Drop)]
+#[derive(Clone, Copy)]
 struct Endings {
     e00: u32,
     e01: u32,
@@ -115,7 +115,7 @@ fn sums_apart(shape: Shape, words: &[u32], at: u32, s: u32, sums: &mut [u32; SUM
 }
 
 // Three or four groups of one column that follow each other: those whose number ends in 1, those whose number ends in 10 or 11, and all.
-#[derive(Drop)]
+#[derive(Clone, Copy)]
 struct Running {
     low: u32,
     high: u32,
@@ -123,7 +123,7 @@ struct Running {
 }
 
 // What a column gives: digits 2 to 6 of the sums, and the whole.
-#[derive(Drop)]
+#[derive(Clone, Copy)]
 struct Column {
     d2: u32,
     d3: u32,

@@ -1,0 +1,44 @@
+-- `layout::Layout::check` meets its contract, rung by rung. Assumes nothing.
+use Prim.Native.Nat.{◌<◌}
+use mathlib.Core.Path.{◌≡◌}
+use native.Mathlib.Omega.{arith}
+use lib.Dec.{eqb}
+use Rattle.ground.proofs.Tests.{tests}
+use Rattle.layout.specs.Refusal.{layout_refusal}
+use Rattle.layout.proofs.Ladder.{no_blocks}
+use Rattle.layout.proofs.Layout.check.Goals as goal
+
+pub returns-then-shape-eq0 : goal.returns-then-shape-eq0
+unfolding layout_refusal
+returns-then-shape-eq0 c = search tests
+
+pub returns-then-shape-gt2 : goal.returns-then-shape-gt2
+unfolding layout_refusal
+returns-then-shape-gt2 c = search tests
+
+pub returns-then-s-eq0 : goal.returns-then-s-eq0
+unfolding layout_refusal
+returns-then-s-eq0 c = search tests
+
+pub returns-then-s-gt16 : goal.returns-then-s-gt16
+unfolding layout_refusal
+returns-then-s-gt16 c = search tests
+
+pub returns-then-n-eq0 : goal.returns-then-n-eq0
+unfolding layout_refusal
+returns-then-n-eq0 c =
+    let same_test : eqb c.args.self.g 0 ≡ eqb c.blocks-n.result 0 = rw c.blocks-n.ensures (no_blocks _ _ c.if-s-eq0.false) in
+    rw same_test (search tests)
+
+pub returns-then-n-gt4096 : goal.returns-then-n-gt4096
+unfolding layout_refusal
+returns-then-n-gt4096 c =
+    let same_test : eqb c.args.self.g 0 ≡ eqb c.blocks-n.result 0 = rw c.blocks-n.ensures (no_blocks _ _ c.if-s-eq0.false) in
+    rw (same_test, ← c.blocks-n.ensures) (search tests)
+
+pub returns : goal.returns
+unfolding layout_refusal
+returns c =
+    let same_test : eqb c.args.self.g 0 ≡ eqb c.blocks-n.result 0 = rw c.blocks-n.ensures (no_blocks _ _ c.if-s-eq0.false) in
+    let h : c.blocks-n.result < 4097 = omega arith in
+    rw (same_test, ← c.blocks-n.ensures) (search tests)
