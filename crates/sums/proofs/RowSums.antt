@@ -71,7 +71,7 @@ pub rows_upto : (k n : ℕ) (w : ℕ → ℕ) → k ≤ n → xor_rows (λ p. tr
 unfolding xor_rows
 rows_upto k zero w h = let e : k ≡ 0 = omega arith in rw e
 rows_upto k (suc n) w h =
-    ⊎_elim (λ (e : k ≡ suc n). rw e (every (suc n) (suc n) (omega arith)))
+    ⊎_elim (λ (e : k ≡ suc n). ap (λ (m : ℕ). xor_rows (λ p. true) m w) e ∙ every k (suc n) (omega arith))
     (λ b. rw (lt-leb (suc n) k (omega arith), xor_zero_r) (rows_upto k n w (le_of_suc-le-suc b)))
     (eq-or-lt_of_le h)
   where
