@@ -12,8 +12,7 @@ use Rattle.shape.specs.Shape.{before}
 use Rattle.shape.proofs.Sizes.{before_lt}
 use Rattle.block.specs.Inner.{above_of, naming_lanes, flipped_in}
 use Rattle.block.proofs.Judged.{named-low, mends-lanes}
-use Rattle.block.proofs.mending.mend.Statement.{statement}
-use Rattle.block.proofs.mending.mend.Tie as tie
+use Rattle.block.proofs.mending.mend.Goals as goal
 
 module _ (c : tie.After-rows) where
   abbrev start : tie.Start
@@ -32,20 +31,16 @@ module _ (c : tie.After-rows) where
       ≡ naming_lanes (before shape) (get_or sums 7 0) sums
   lanes-are = ap₂ (λ (x y : ℕ). bit_and x ((2 ^ 32 - 1) - y)) c.before.before.before.odd.ensures c.before.before.above.ensures
 
-flip-named-requires : tie.Need-flip-named-requires
-flip-named-requires c κs =
+pub flip_named-requires : goal.flip_named-requires
+flip_named-requires c =
     let low = named-low (shape c) (sums c) (above-small c) in (
       omega (arith, c.rows.ensures),
       omega (arith, c.rows.ensures, before_lt (shape c)),
       λ i h e. omega (arith, c.rows.ensures, low i h (sym (ap (bit i) (lanes-are c)) ∙ e)),
     )
 
-returns : tie.Need-returns
+pub returns : goal.returns
 returns c =
-    let b = c.before in
-    c.flip-named.ensures
-    ∙ ap₂ (λ (n w : ℕ). flipped_in n (sums b) (λ i. bit i w) (start b).args.block.now) b.rows.ensures (lanes-are b)
-    ∙ mends-lanes (shape b) (sums b) (above-small b) (start b).args.block.now
-
-pub mend-spec : {M : Type 1} → statement M
-mend-spec = tie.close (tie.spec (λ c κs. search rules) (λ c κs. search rules) (λ c κs. search rules) flip-named-requires returns)
+    c.flip_named.ensures
+    ∙ ap₂ (λ (n w : ℕ). flipped_in n (sums c) (λ i. bit i w) (start c).args.block.now) c.rows.ensures (lanes-are c)
+    ∙ mends-lanes (shape c) (sums c) (above-small c) (start c).args.block.now

@@ -11,15 +11,7 @@ use Rattle.shape.specs.Shape.{before}
 use Rattle.block.specs.Sums.{CopiesData}
 use Rattle.block.specs.DataTables.{DataTable}
 use Rattle.block.proofs.DataTables.{data_one_lem, data_two_lem, table-there, table-copied}
-use Rattle.block.proofs.coding.data_of.Statement.{statement}
-use Rattle.block.proofs.coding.data_of.Tie as tie
-
--- the start, from where the number of rows is known
-abbrev start : tie.After-rows → tie.Start
-start c = c.before.before.before
-
-returns : tie.Need-returns
-returns c = record { there = λ h. absurd (omega (arith, c.before.rows.ensures, c.if1.true)); missing = λ no. refl }
+use Rattle.block.proofs.coding.data_of.Goals as goal
 
 -- every row is there, and a table of the shape that is told is copied
 module _ (c : tie.Else1) {known : Shape} (told : (start c.before).args.shape ≡ known) {table : List ℕ} (t : DataTable known table) where
@@ -39,37 +31,21 @@ module _ (c : tie.Else1) {known : Shape} (told : (start c.before).args.shape ≡
       → CopiesData (start c.before).args.shape block 0 1 buffer after
   copied buffer e = table-copied own block 0 1 room table buffer e refl
 
-copy-rows-requires : tie.Need-copy-rows-requires
-copy-rows-requires c κs = let one = c.before.before in rows-there one.before.before one.enum_told.given.1 data_one_lem
+pub returns-then-block-rows : goal.returns-then-block-rows
+returns-then-block-rows c = record { there = λ h. absurd (omega (arith, c.rows.ensures, c.if-block-rows.true)); missing = λ no. refl }
 
-copy-rows-requires-2 : tie.Need-copy-rows-requires-2
-copy-rows-requires-2 c κs = let two = c.before.before in rows-there two.before.before two.enum-told2.given.1 data_two_lem
+pub copy_rows-requires : goal.copy_rows-requires
+copy_rows-requires c = rows-there c c.enum_told-1.given.1 data_one_lem
 
-returns-2 : tie.Need-returns-2
-returns-2 c =
-    let one = c.before.before.before.before.before in
-    copied one.before.before one.enum_told.given.1 data_one_lem (start one.before.before.before).args.buffer.now
-    c.before.before.copy-rows.ensures
+pub copy_rows-requires-in-Two : goal.copy_rows-requires-in-Two
+copy_rows-requires-in-Two c = rows-there c c.enum_told-in-Two-1.given.1 data_two_lem
 
-returns-3 : tie.Need-returns-3
-returns-3 c =
-    let two = c.before.before.before.before.before in
-    copied two.before.before two.enum-told2.given.1 data_two_lem (start two.before.before.before).args.buffer.now
-    c.before.before.copy-rows2.ensures
+pub returns-in-One : goal.returns-in-One
+returns-in-One c =
+    copied c c.enum_told-1.given.1 data_one_lem c.args.buffer.now
+    c.copy_rows.ensures
 
-pub data-of-spec : {M : Type 1} → statement M
-data-of-spec =
-    tie.close
-    (tie.spec
-    (λ c κs. search rules)
-    returns
-    (λ c. search rules)
-    (λ c. search rules)
-    copy-rows-requires
-    (λ c. search rules)
-    (λ c. search rules)
-    copy-rows-requires-2
-    (λ c. search rules)
-    returns-2
-    (λ c. search rules)
-    returns-3)
+pub returns-in-Two : goal.returns-in-Two
+returns-in-Two c =
+    copied c c.enum_told-in-Two-1.given.1 data_two_lem c.args.buffer.now
+    c.copy_rows-in-Two.ensures

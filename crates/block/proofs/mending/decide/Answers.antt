@@ -15,11 +15,9 @@ use Rattle.block.specs.Verdict.{said_of}
 use Rattle.sums.specs.Inner.{any_of}
 use Rattle.block.specs.Inner.{lost_lanes}
 use Rattle.block.proofs.Judged.{lost-decides, clean-decides, mended-decides}
-use Rattle.block.proofs.mending.decide.Statement.{statement}
-use Rattle.block.proofs.mending.decide.Tie as tie
+use Rattle.block.proofs.mending.decide.Goals as goal
 
 -- ---- what the words are, once they are computed
-
 module _ (c : tie.After-above) where
   abbrev start : tie.Start
   start = c.before.before.before
@@ -48,36 +46,19 @@ module _ (c : tie.After-above) where
   beyond-is : bit_and c.before.before.odd.result c.above.result ≡ lanes beyond
   beyond-is = ap₂ bit_and parity-is c.above.ensures
 
-none_lost : (c : tie.Else1) → bit_or (lanes c.before even) (lanes c.before beyond) ≡ 0
-none_lost c = sym (ap₂ bit_or (even_is c.before) (beyond-is c.before)) ∙ c.if1.false
+pub returns-then-even-beyond-ne0 : goal.returns-then-even-beyond-ne0
+returns-then-even-beyond-ne0 c =
+    let some-lost : bit_or (lanes c even) (lanes c beyond) ≡ 0 → ⊥ = λ e. c.if-even-beyond-ne0.true (ap₂ bit_or (even_is c) (beyond-is c) ∙ e) in
+    ap₂ (λ (x y : ℕ). said_of (Lost (ones x) (ones y))) (even_is c) (beyond-is c)
+    ∙ lost-decides (shape c) (sums c) (parity-lt c) (any-lt c) some-lost
 
-some-lost : (c : tie.Then1) → bit_or (lanes c.before even) (lanes c.before beyond) ≡ 0 → ⊥
-some-lost c e = c.if1.true (ap₂ bit_or (even_is c.before) (beyond-is c.before) ∙ e)
+pub returns-then-parity-eq0 : goal.returns-then-parity-eq0
+returns-then-parity-eq0 c =
+    let none_lost : bit_or (lanes c even) (lanes c beyond) ≡ 0 = sym (ap₂ bit_or (even_is c) (beyond-is c)) ∙ c.if-even-beyond-ne0.false in
+    clean-decides (shape c) (sums c) (parity-lt c) (any-lt c) none_lost (sym (parity-is c) ∙ c.if-parity-eq0.true)
 
-returns : tie.Need-returns
+pub returns : goal.returns
 returns c =
-    let b = c.before in
-    ap₂ (λ (x y : ℕ). said_of (Lost (ones x) (ones y))) (even_is b) (beyond-is b)
-    ∙ lost-decides (shape b) (sums b) (parity-lt b) (any-lt b) (some-lost c)
-
-returns-2 : tie.Need-returns-2
-returns-2 c =
-    let b = c.before.before in
-    clean-decides (shape b) (sums b) (parity-lt b) (any-lt b) (none_lost c.before) (sym (parity-is b) ∙ c.if2.true)
-
-returns-3 : tie.Need-returns-3
-returns-3 c =
-    let b = c.before.before in
-    ap (λ (w : ℕ). said_of (Mended (ones w))) (parity-is b)
-    ∙ mended-decides (shape b) (sums b) (parity-lt b) (any-lt b) (none_lost c.before) (λ z. c.if2.false (parity-is b ∙ z))
-
-pub decide-spec : {M : Type 1} → statement M
-decide-spec =
-    tie.close
-    (tie.spec
-    (λ c κs. search rules)
-    (λ c κs. search rules)
-    (λ c κs. search rules)
-    returns
-    returns-2
-    returns-3)
+    let none_lost : bit_or (lanes c even) (lanes c beyond) ≡ 0 = sym (ap₂ bit_or (even_is c) (beyond-is c)) ∙ c.if-even-beyond-ne0.false in
+    ap (λ (w : ℕ). said_of (Mended (ones w))) (parity-is c)
+    ∙ mended-decides (shape c) (sums c) (parity-lt c) (any-lt c) none_lost (λ z. c.if-parity-eq0.false (parity-is c ∙ z))

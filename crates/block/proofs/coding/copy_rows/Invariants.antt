@@ -1,0 +1,21 @@
+-- `block::coding::copy_rows` meets its contract. The loop's invariant: the words passed are copied; past the buffer's end nothing is stored. Assumes nothing.
+use Prim.Native.Nat.{ℕ, zero, suc, ◌+◌, ◌*◌, ◌≤◌, ◌<◌, ◌-◌}
+use mathlib.Core.Path.{◌≡◌, refl, ap, ◌∙◌}
+use native.Mathlib.Nat.{suc-mul, mul-le-mul_right}
+use native.Mathlib.Numerals.{add-one}
+use native.Mathlib.Omega.{arith}
+use lib.ListN.{length, get_or, length-set}
+use lib.Seq.{set_out}
+use borrow.Author.Rules.{rules}
+use Rattle.ground.proofs.Stores.{length_stores, stores_more}
+use Rattle.ground.specs.Stores.{stores}
+use Rattle.ground.proofs.Smaller.{least_of}
+use Rattle.block.proofs.coding.copy_rows.Given as goal
+
+abbrev pub invariant-loop-k : goal.invariant-loop-k
+invariant-loop-k l =
+    (l.k ≤ l.n) × (l.n ≤ length l.rows) × (l.n ≤ length l.initial.buffer) × (l.n < length l.rows → l.n ≡ length l.initial.buffer)
+    × (l.buffer ≡ stores l.initial.buffer (λ j. j) (λ j. get_or l.words (l.at + (get_or l.rows j 0 - 1) * l.s) 0) l.k) × (length l.buffer ≡ length l.initial.buffer)
+
+abbrev pub decreases-loop-k : goal.decreases-loop-k
+decreases-loop-k l = l.n - l.k

@@ -1,0 +1,64 @@
+-- `block::coding::data_into` meets its contract: the front of its table is that of the shape's data rows. Assumes nothing.
+use Prim.Native.Nat.{ℕ, ◌+◌, ◌*◌, ◌≤◌, ◌<◌}
+use mathlib.Core.Path.{◌≡◌, refl, ap}
+use native.Mathlib.Omega.{arith}
+use lib.ListN.{length, take}
+use borrow.Author.Rules.{rules}
+use Rattle.shape.specs.declared.Shape.{Shape}
+use Rattle.shape.specs.declared.Shape.TheVariants.{One, Two}
+use Rattle.shape.specs.Shape.{before, words}
+use Rattle.sums.proofs.Apart.{before-few}
+use Rattle.block.proofs.DataTables.{data_two, data_front, table-there, table-copied}
+use Rattle.block.proofs.coding.data_into.Goals as goal
+
+few_words : (shape : Shape) → words shape ≤ 64
+few_words One = omega arith
+few_words Two = omega arith
+
+front_long : (shape : Shape) → words shape ≡ length (take (words shape) data_two)
+front_long One = refl
+front_long Two = refl
+
+pub overflow_mul-rows_before : goal.overflow_mul-rows_before
+overflow_mul-rows_before c =
+    let few : c.rows_before.result * c.args.s ≤ 72 * c.args.s = let args = c.args in
+    let r = ap (λ (b : ℕ). b * args.s) c.rows_before.ensures in
+    omega (arith, r, before-few args.s 0 args.shape) in
+    omega (arith, few)
+
+pub overflow_add-first : goal.overflow_add-first
+overflow_add-first c =
+    let few : c.rows_before.result * c.args.s ≤ 72 * c.args.s = let args = c.args in
+    let r = ap (λ (b : ℕ). b * args.s) c.rows_before.ensures in
+    omega (arith, r, before-few args.s 0 args.shape) in
+    omega (arith, few)
+
+pub returns-then-words-first : goal.returns-then-words-first
+returns-then-words-first c =
+    let r = ap (λ (b : ℕ). b * c.args.s) c.rows_before.ensures in
+    record { there = λ h. absurd (omega (arith, r, c.if-words-first.true)); missing = λ no. refl }
+
+pub slice_bounds-table-end : goal.slice_bounds-table-end
+slice_bounds-table-end c = omega (arith, c.words.ensures, few_words c.args.shape)
+
+pub slice_bounds-copy_rows-end : goal.slice_bounds-copy_rows-end
+slice_bounds-copy_rows-end c = rw c.words.ensures (front_long c.args.shape)
+
+pub copy_rows-requires : goal.copy_rows-requires
+copy_rows-requires c =
+    let front : take c.words.result data_two ≡ take (words c.args.shape) data_two = ap (λ (n : ℕ). take n data_two) c.words.ensures in
+    let room : let args = c.args in args.at + before args.shape * args.s < length args.words.now = let args = c.args in
+    let r = ap (λ (b : ℕ). b * args.s) c.rows_before.ensures in
+    omega (arith, r, c.if-words-first.false) in
+    let args = c.args in
+    (omega arith, omega arith, table-there (data_front args.shape) args.words.now args.at args.s room _ front)
+
+pub returns : goal.returns
+returns c =
+    let front : take c.words.result data_two ≡ take (words c.args.shape) data_two = ap (λ (n : ℕ). take n data_two) c.words.ensures in
+    let room : let args = c.args in args.at + before args.shape * args.s < length args.words.now = let args = c.args in
+    let r = ap (λ (b : ℕ). b * args.s) c.rows_before.ensures in
+    omega (arith, r, c.if-words-first.false) in
+    let args = c.args in
+    table-copied (data_front args.shape) args.words.now args.at args.s room _ args.buffer.now
+    c.copy_rows.ensures front

@@ -1,0 +1,57 @@
+-- `block::coding::set_checks` meets its contract. The loop's invariant: the check rows passed are set. Assumes nothing.
+use Prim.Native.Nat.{◌≤◌, ◌-◌, ◌^◌}
+use mathlib.Core.Path.{◌≡◌, refl, ap, ◌∙◌}
+use native.Mathlib.Nat.{pow-suc}
+use native.Mathlib.Numerals.{add-one}
+use native.Mathlib.Omega.{arith}
+use lib.ListN.{get_or}
+use lib.Pow.{pow_mono, pow_pos}
+use Rattle.block.specs.Inner.{with_checks}
+use Rattle.ground.specs.Stores.{stores}
+use Rattle.block.proofs.coding.set_checks.Goals as goal
+
+pub loop-k-init : goal.loop-k-init
+unfolding stores
+loop-k-init c = (omega arith, refl, refl)
+
+pub offset_bounds-sums-k : goal.offset_bounds-sums-k
+offset_bounds-sums-k c = omega arith
+
+pub overflow_sub-block : goal.overflow_sub-block
+overflow_sub-block c =
+    let there : (1 ≤ c.loop-k.at) × (c.loop-k.at ≤ 64) = let k = c.loop-k.k in
+    let h : 2 ^ k ≤ 2 ^ 6 = pow_mono {i = k} {j = 6} (omega arith) in
+    omega (arith, pow_pos k) in
+    there.0
+
+pub offset_bounds-block-at : goal.offset_bounds-block-at
+offset_bounds-block-at c =
+    let there : (1 ≤ c.loop-k.at) × (c.loop-k.at ≤ 64) = let k = c.loop-k.k in
+    let h : 2 ^ k ≤ 2 ^ 6 = pow_mono {i = k} {j = 6} (omega arith) in
+    omega (arith, pow_pos k) in
+    omega (arith, there)
+
+pub bounds-block-at : goal.bounds-block-at
+bounds-block-at c =
+    let there : (1 ≤ c.loop-k.at) × (c.loop-k.at ≤ 64) = let k = c.loop-k.k in
+    let h : 2 ^ k ≤ 2 ^ 6 = pow_mono {i = k} {j = 6} (omega arith) in
+    omega (arith, pow_pos k) in
+    omega (arith, there)
+
+pub overflow_mul-at : goal.overflow_mul-at
+overflow_mul-at c =
+    let there : (1 ≤ c.loop-k.at) × (c.loop-k.at ≤ 64) = let k = c.loop-k.k in
+    let h : 2 ^ k ≤ 2 ^ 6 = pow_mono {i = k} {j = 6} (omega arith) in
+    omega (arith, pow_pos k) in
+    omega (arith, there)
+
+pub loop-k-preserved : goal.loop-k-preserved
+unfolding stores
+loop-k-preserved c = rw add-one (omega arith, rw (c.loop-k.invariant.1, c.loop-k.invariant.2), rw pow-suc (omega arith))
+
+pub returns : goal.returns
+unfolding with_checks
+returns c =
+    let args = c.args in
+    let e : c.loop-k.k ≡ 7 = omega arith in
+    c.loop-k.invariant.1 ∙ ap (stores args.block.now (λ j. 2 ^ j - 1) (λ j. get_or args.sums.now j 0)) e
