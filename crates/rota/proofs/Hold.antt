@@ -10,7 +10,7 @@ use lib.Dec.{eqb}
 use borrow.Author.Tests.{eq-eqb, ne_eqb}
 use Rattle.rota.specs.Line.{places}
 use Rattle.rota.specs.Plan.{Plan, start}
-use Rattle.rota.specs.Turning.{onward, due_of, due}
+use Rattle.rota.specs.Turning.{onward, due_of}
 use Rattle.rota.specs.Record.{fresh, rota_of, rota_turned}
 use Rattle.rota.specs.Steps.{ask, turn, other, tick, turns, rotaStep}
 use Rattle.rota.specs.Touches.{Touch, write, read, visit, flip, nothing, overwritten, meant, last_written}

@@ -1,7 +1,7 @@
 -- The numbers of an answer are those of its call's refusals, they tell the answers apart, and no refusal has the number 0.
 -- Assumes nothing.
 use Prim.Native.Nat.{ℕ, zero, suc}
-use mathlib.Core.Bool.{Bool, false, true≢false, false≢true}
+use mathlib.Core.Bool.{false, true≢false, false≢true}
 use mathlib.Core.Path.{◌≡◌, refl, sym, ap, ap₂, ◌∙◌}
 use mathlib.Core.List.{List, [], ◌∷◌}
 use native.Mathlib.Omega.{arith}

@@ -14,14 +14,14 @@ pub use line::{Line, PLACES};
 use line::{place_in, sound};
 
 // The record: the block that is next, and the line of the blocks that are asked for.
-#[derive(Drop)]
+#[derive(Clone, Copy)]
 pub struct Rota {
     pub next: u32,
     pub line: Line,
 }
 
 // What an ask answers: the number of its refusal, or the place.
-#[derive(Drop)]
+#[derive(Clone, Copy)]
 pub enum Place {
     Refused(u32),
     Given(u32),

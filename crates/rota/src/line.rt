@@ -7,7 +7,7 @@ ghost use Rattle.rota.specs.Line.{sound, line_of, shorter, Tidy};
 pub const PLACES: usize = 16;
 
 // How many blocks wait, and which, the next one first.
-#[derive(Drop)]
+#[derive(Clone, Copy)]
 pub struct Line {
     pub waiting: u32,
     pub asks: [u32; PLACES],
