@@ -12,13 +12,14 @@ import sys
 
 TOP = os.path.dirname(os.path.dirname(os.path.abspath(__file__)))
 WORD = re.compile(r"[^\W\d][\w'?]*(?:-[\w'?]+)*")
-HEAD = re.compile(r"^(?:(?:abbrev|unfoldable|pub|opaque)\s+)*([^\W\d][\w'?]*(?:-[\w'?]+)*)(?:\s+[^\W\d][\w'?-]*)*\s+:(?=\s|$)")
-FIELD = re.compile(r"^\s+(?:pub\s+)?([^\W\d][\w'?-]*(?:\s+[^\W\d][\w'?-]*)*)\s+:(?=\s|$)")
+HEAD = re.compile(r"^\s*(?:(?:abbrev|unfoldable|pub|opaque)\s+)*([^\W\d][\w'?]*(?:-[\w'?]+)*(?:\s+[^\W\d][\w'?-]*)*)\s+:(?=\s|$)")
 # Lemmas that would get the very name of the definition they speak of.
 APART = {name: name.replace("-", "_") + "_lem" for name in (
-    "body-byte", "data-one", "data-two", "file-of", "first-rows", "head-of", "header-layout", "list-rung", "lost-lanes", "lost-test",
-    "pair-bytes", "row-sums", "said-by", "seen-words", "version-rung", "word-bytes")} | {
-    "old-sample": "old_sample_read", "bit-xor": "bit_of_xor", "bit-and": "bit_of_and", "bit-or": "bit_of_or"}
+    "ask-number", "ask-place", "ask-refused", "block-rung", "body-byte", "body-rung", "data-one", "data-two", "decision-in", "due-after", "field-rung",
+    "file-of", "first-rows", "fresh-image", "fresh-word", "groups-rung", "head-of", "header-layout", "interleave-rung", "lane-around", "length-rung",
+    "list-rung", "long-rung", "lost-lanes", "lost-test", "not-one", "odd-count", "odd-in", "pair-bytes", "room-rung", "rota-after", "row-sums", "said-by",
+    "seen-words", "shape-rung", "sum-in", "turn-number", "turn-refused", "version-rung", "visit-words", "word-bytes")} | {
+    "old-sample": "old_sample_read", "bit-xor": "bit_of_xor", "bit-and": "bit_of_and", "bit-or": "bit_of_or", "dataRow": "row_of_data"}
 SHAPE = re.compile(r"^(?:pub\s+)?(?:data|record)\s+([^\W\d][\w'?-]*)")
 
 
@@ -46,33 +47,37 @@ def respelled(name):
 
 
 def declared(text):
-    """The names that a file declares: definitions, lemmas, fields, constructors."""
-    found, shape = set(), False
+    """The names that a file declares, also below a `module` or a `where`, and those of them that are fields or constructors."""
+    found, fields, shape = set(), set(), False
     for line in text.split("\n"):
         if line.startswith(("--", "use ", "pub use ", "pub mod", "mod ")):
             continue
-        if SHAPE.match(line):
-            shape = True
-            found.add(SHAPE.match(line).group(1))
-            continue
         if line and not line[0].isspace():
-            shape = False
-            head = HEAD.match(line)
-            if head:
-                found.add(head.group(1))
-        elif shape and FIELD.match(line):
-            found.update(FIELD.match(line).group(1).split())
-    return found
+            shape = bool(SHAPE.match(line))
+        head = SHAPE.match(line) or HEAD.match(line)
+        if head:
+            found.update(head.group(1).split())
+            if shape and line[0].isspace():
+                fields.update(head.group(1).split())
+    return found, fields
 
 
-def turned(text, names, comment):
-    """The text with each name in names respelled; in a comment only between backquotes."""
+def turned(text, names, fields, comment):
+    """The text with each name in names respelled, but for goals and steps; in a comment only between backquotes."""
+    goals = set(re.findall(r"(?m)^pub (\S+) : goal\.", text))
+
     def word(m):
-        return names.get(m.group(0), m.group(0))
+        before, name = m.string[: m.start()], m.group(0)
+        at = re.search(r"([\w'?-]+)\.$", before)
+        if name in goals or (before.endswith(".") and name not in fields and not (at and at.group(1)[0].isupper())):
+            return name
+        if at and at.group(1) in ("c", "goal", "tie"):
+            return name
+        return names.get(name, name)
 
     lines = []
     for line in text.split("\n"):
-        at = re.search(r'(?:^|\s)' + re.escape(comment) + r'(?:\s|$)', line) if comment else None
+        at = re.search(r'(?:^|\s)' + re.escape(comment) + r'(?:\s|$)', line)
         cut = at.start() if at else len(line)
         tail = re.sub(r"`[^`]*`", lambda m: WORD.sub(word, m.group(0)), line[cut:])
         parts = re.split(r'("(?:[^"\\]|\\.)*")', line[:cut])
@@ -87,14 +92,16 @@ def read(path):
 
 
 def main():
-    where = {}
+    where, fields = {}, set()
     for path in files(".antt"):
         if not is_function_proof(path):
-            for name in declared(read(path)):
+            found, within = declared(read(path))
+            fields |= within
+            for name in found:
                 where.setdefault(name, []).append(path)
     names = {n: respelled(n) for n in where if respelled(n) != n}
     for path in sorted({p for ps in where.values() for p in ps}):
-        here = declared(read(path))
+        here = declared(read(path))[0]
         taken = {}
         for name in sorted(here):
             taken.setdefault(names.get(name, name), []).append(name)
@@ -115,7 +122,7 @@ def main():
     for ending, comment in ((".antt", "--"), (".rt", "//"), (".edit", "#")):
         for path in files(ending):
             text = read(path)
-            new = turned(text, names, comment)
+            new = turned(text, names, fields, comment)
             if new != text:
                 changed += 1
                 with open(path, "w", encoding="utf-8") as f:

@@ -35,7 +35,7 @@ use Rattle.around.specs.Named.{among?, spare?}
 use Rattle.around.specs.Lane.{inside, outside, MeantLane, lane_lost?, lane_changes, lane_around}
 use Rattle.around.specs.Block.{MeantBlock, lanes_lost_around, around_lanes, around_block, bits_inside, bits_outside}
 use Rattle.around.specs.Inner.{changed_at}
-use Rattle.around.proofs.Lanes.{RowsTo, around-meant, meant-kept, never_second, meant-left}
+use Rattle.around.proofs.Lanes.{RowsTo, around_meant, meant_kept, never_second, meant_left}
 
 -- a total of 0 has no value above it
 total_none : (n : ℕ) (f : ℕ → ℕ) → total n f ≡ 0 → (i : ℕ) → i < n → f i ≡ 0
@@ -75,44 +75,44 @@ module _ (shape : Shape) (named block : List ℕ) where
   abbrev pub AllKept : Type 0
   AllKept = (i : ℕ) → i < 32 → lane_lost? m named (lane i block) ≡ false
 
-  pub kept-none : AllKept → lanes_lost_around shape named block ≡ 0
+  pub kept_none : AllKept → lanes_lost_around shape named block ≡ 0
   unfolding lanes_lost_around
-  kept-none k = none_counted 32 (λ i. lane_lost? m named (lane i block)) k
+  kept_none k = none_counted 32 (λ i. lane_lost? m named (lane i block)) k
 
   pub none_kept : lanes_lost_around shape named block ≡ 0 → AllKept
   unfolding lanes_lost_around
   none_kept e = counted_none 32 (λ i. lane_lost? m named (lane i block)) e
 
-  pub around-kept : lanes_lost_around shape named block ≡ 0 → around_block shape named block ≡ around_lanes shape named block
+  pub around_kept : lanes_lost_around shape named block ≡ 0 → around_block shape named block ≡ around_lanes shape named block
   unfolding around_block
-  around-kept e = ap (λ (n : ℕ). if_zero n (around_lanes shape named block) block) e
+  around_kept e = ap (λ (n : ℕ). if_zero n (around_lanes shape named block) block) e
 
-  pub around-lost : (n : ℕ) → lanes_lost_around shape named block ≡ suc n → around_block shape named block ≡ block
+  pub around_lost : (n : ℕ) → lanes_lost_around shape named block ≡ suc n → around_block shape named block ≡ block
   unfolding around_block
-  around-lost n e = ap (λ (n : ℕ). if_zero n (around_lanes shape named block) block) e
+  around_lost n e = ap (λ (n : ℕ). if_zero n (around_lanes shape named block) block) e
 
-  length-lanes : length (around_lanes shape named block) ≡ length block
+  length_lanes : length (around_lanes shape named block) ≡ length block
   unfolding around_lanes
-  length-lanes = length_list_of (length block) _
+  length_lanes = length_list_of (length block) _
 
-  pub length-around : length (around_block shape named block) ≡ length block
+  pub length_around : length (around_block shape named block) ≡ length block
   unfolding around_block
-  length-around = by (lanes_lost_around shape named block)
+  length_around = by (lanes_lost_around shape named block)
     where
       by : (n : ℕ) → length (if_zero n (around_lanes shape named block) block) ≡ length block
-      by zero = length-lanes
+      by zero = length_lanes
       by (suc n) = refl
 
   -- words that fit are mended to words that fit
-  pub around-fits : Fitting block → Fitting (around_block shape named block)
+  pub around_fits : Fitting block → Fitting (around_block shape named block)
   unfolding around_block around_lanes
-  around-fits f = by (lanes_lost_around shape named block)
+  around_fits f = by (lanes_lost_around shape named block)
     where
       lanes : Fitting (around_lanes shape named block)
       lanes j =
           ⊎_elim
           (λ h. rw (get_or_list_of (length block) _ j h) (xor_lt 32 (get_or block j 0) _ (f j) (number_lt 32 _)))
-          (λ h. rw (get_or-eq_default (around_lanes shape named block) 0 {n = j} (rw length-lanes h)) (pow_pos 32))
+          (λ h. rw (get_or-eq_default (around_lanes shape named block) 0 {n = j} (rw length_lanes h)) (pow_pos 32))
           (split_below j (length block))
 
       by : (n : ℕ) → Fitting (if_zero n (around_lanes shape named block) block)
@@ -121,87 +121,87 @@ module _ (shape : Shape) (named block : List ℕ) where
 
   module _ (long : rows shape ≤ length block) where
     -- each lane of what is left is that lane mended
-    lane-around : (i : ℕ) → i < 32 → (j : ℕ) → j < rows shape → lane i (around_lanes shape named block) (suc j) ≡ lane_around m named (lane i block) (suc j)
+    lane_around_lem : (i : ℕ) → i < 32 → (j : ℕ) → j < rows shape → lane i (around_lanes shape named block) (suc j) ≡ lane_around m named (lane i block) (suc j)
     unfolding around_lanes
-    lane-around i hi j h =
+    lane_around_lem i hi j h =
         ap (bit i) (get_or_list_of (length block) _ j (omega arith))
         ∙ bit_of_xor i (get_or block j 0) (word (λ i. lane_changes m named (lane i block) (suc j)))
         ∙ ap (λ (b : Bool). bit i (get_or block j 0) ⊕ b) (bit_number 32 i _ hi)
 
     -- the bits that differ in some rows, by the rows that are changed in each lane
-    differ-where : (which : Lane)
+    differ_where : (which : Lane)
         → total 32 (λ i. count (rows shape) (λ p. which p && diff (lane i block) (lane i (around_lanes shape named block)) p))
         ≡ total 32 (λ i. count (rows shape) (λ p. which p && lane_changes m named (lane i block) p))
-    differ-where which =
+    differ_where which =
         total_same 32 _ _
         (λ i hi.
         count_same (rows shape) (λ p. which p && diff (lane i block) (lane i (around_lanes shape named block)) p)
         (λ p. which p && lane_changes m named (lane i block) p)
         (λ j h.
         ap (λ (b : Bool). which (suc j) && b)
-        (ap (λ (b : Bool). lane i block (suc j) ⊕ b) (lane-around i hi j h) ∙ ⊕-cancel (lane i block (suc j)) (lane_changes m named (lane i block) (suc j)))))
+        (ap (λ (b : Bool). lane i block (suc j) ⊕ b) (lane_around_lem i hi j h) ∙ ⊕-cancel (lane i block (suc j)) (lane_changes m named (lane i block) (suc j)))))
 
     module _ (within : RowsTo (rows shape) named) where
       -- what is left where no lane is lost may have been meant
-      pub left-meant : lanes_lost_around shape named block ≡ 0 → MeantBlock shape named block (around_block shape named block)
-      left-meant none i hi =
-          rw (around-kept none)
-          (meant_same m named (lane i block) _ _ (λ j h. sym (lane-around i hi j h))
-          (around-meant m named (lane i block) within (none_kept none i hi)))
+      pub left_meant : lanes_lost_around shape named block ≡ 0 → MeantBlock shape named block (around_block shape named block)
+      left_meant none i hi =
+          rw (around_kept none)
+          (meant_same m named (lane i block) _ _ (λ j h. sym (lane_around_lem i hi j h))
+          (around_meant m named (lane i block) within (none_kept none i hi)))
 
       -- and where some block may have been meant no lane is lost
-      pub meant-none : (meant : List ℕ) → MeantBlock shape named block meant → lanes_lost_around shape named block ≡ 0
-      meant-none meant h = kept-none (λ i hi. meant-kept m named (lane i block) within (lane i meant) (h i hi))
+      pub meant_none : (meant : List ℕ) → MeantBlock shape named block meant → lanes_lost_around shape named block ≡ 0
+      meant_none meant h = kept_none (λ i hi. meant_kept m named (lane i block) within (lane i meant) (h i hi))
 
       module _ (few : length named ≤ 3) where
         -- it is the one that is left
-        pub meant-rows : (meant : List ℕ) → Fitting meant → Fitting block → MeantBlock shape named block meant
+        pub meant_rows : (meant : List ℕ) → Fitting meant → Fitting block → MeantBlock shape named block meant
             → SameRows shape meant (around_block shape named block)
-        meant-rows meant fits small h =
-            rows_same shape meant (around_block shape named block) fits (around-fits small)
-            (λ i hi. never_second m named (lane i block) (lane i meant) _ few (h i hi) (left-meant (meant-none meant h) i hi))
+        meant_rows meant fits small h =
+            rows_same shape meant (around_block shape named block) fits (around_fits small)
+            (λ i hi. never_second m named (lane i block) (lane i meant) _ few (h i hi) (left_meant (meant_none meant h) i hi))
 
         -- ---- what the code leaves: row p changed by the word of p
 
         module _ (change : ℕ → ℕ) (small : (p : ℕ) → change p < 2 ^ 32)
             (meant : (i : ℕ) → i < 32 → MeantLane m named (lane i block) (diff (lane i block) (λ p. bit i (change p)))) where
-          change-bits : (i : ℕ) → i < 32 → (j : ℕ) → j < rows shape → bit i (change (suc j)) ≡ lane_changes m named (lane i block) (suc j)
-          change-bits i hi j h =
+          change_bits : (i : ℕ) → i < 32 → (j : ℕ) → j < rows shape → bit i (change (suc j)) ≡ lane_changes m named (lane i block) (suc j)
+          change_bits i hi j h =
               let f = lane i block in
               sym (⊕-cancel (f (suc j)) (bit i (change (suc j))))
-              ∙ ap (λ (b : Bool). f (suc j) ⊕ b) (meant-left m named f _ within few (meant i hi) j h)
+              ∙ ap (λ (b : Bool). f (suc j) ⊕ b) (meant_left m named f _ within few (meant i hi) j h)
               ∙ ⊕-cancel (f (suc j)) (lane_changes m named f (suc j))
 
-          pub change-none : lanes_lost_around shape named block ≡ 0
-          change-none = kept-none (λ i hi. meant-kept m named (lane i block) within _ (meant i hi))
+          pub change_none : lanes_lost_around shape named block ≡ 0
+          change_none = kept_none (λ i hi. meant_kept m named (lane i block) within _ (meant i hi))
 
           -- is the block mended around the named rows
-          pub change-row : (j : ℕ) → j < rows shape → bit_xor (get_or block j 0) (change (suc j)) ≡ get_or (around_block shape named block) j 0
+          pub change_row : (j : ℕ) → j < rows shape → bit_xor (get_or block j 0) (change (suc j)) ≡ get_or (around_block shape named block) j 0
           unfolding around_lanes
-          change-row j h =
-              rw (around-kept change-none, get_or_list_of (length block) _ j (omega arith))
-              (ap (bit_xor (get_or block j 0)) (number_bits 32 (change (suc j)) _ (small (suc j)) (λ i hi. change-bits i hi j h)))
+          change_row j h =
+              rw (around_kept change_none, get_or_list_of (length block) _ j (omega arith))
+              (ap (bit_xor (get_or block j 0)) (number_bits 32 (change (suc j)) _ (small (suc j)) (λ i hi. change_bits i hi j h)))
 
-          change-where : (which : Lane)
+          change_where : (which : Lane)
               → total 32 (λ i. count (rows shape) (λ p. which p && diff (lane i block) (lane i (around_block shape named block)) p))
               ≡ total 32 (λ i. count (rows shape) (λ p. which p && bit i (change p)))
-          change-where which =
-              rw (around-kept change-none)
-              (differ-where which
+          change_where which =
+              rw (around_kept change_none)
+              (differ_where which
               ∙ total_same 32 _ _
               (λ i hi.
               count_same (rows shape) (λ p. which p && lane_changes m named (lane i block) p) (λ p. which p && bit i (change p))
-              (λ j h. ap (λ (b : Bool). which (suc j) && b) (sym (change-bits i hi j h)))))
+              (λ j h. ap (λ (b : Bool). which (suc j) && b) (sym (change_bits i hi j h)))))
 
-          pub change-inside : bits_inside shape named block (around_block shape named block)
+          pub change_inside : bits_inside shape named block (around_block shape named block)
               ≡ total 32 (λ i. count (rows shape) (λ p. among? named p && bit i (change p)))
           unfolding bits_inside
-          change-inside = change-where (among? named)
+          change_inside = change_where (among? named)
 
-          pub change-outside : bits_outside shape named block (around_block shape named block)
+          pub change_outside : bits_outside shape named block (around_block shape named block)
               ≡ total 32 (λ i. count (rows shape) (λ p. not (among? named p) && bit i (change p)))
           unfolding bits_outside
-          change-outside = change-where (λ p. not (among? named p))
+          change_outside = change_where (λ p. not (among? named p))
 
         -- ---- clean
 
@@ -232,21 +232,21 @@ module _ (shape : Shape) (named block : List ℕ) where
               ∙ count_empty (rows shape))
               ∙ total_zero 32
 
-          pub valid-kept : lanes_lost_around shape named block ≡ 0
-          valid-kept = change-none (λ p. 0) (λ p. pow_pos 32) itself
+          pub valid_kept : lanes_lost_around shape named block ≡ 0
+          valid_kept = change_none (λ p. 0) (λ p. pow_pos 32) itself
 
-          pub valid-inside : bits_inside shape named block (around_block shape named block) ≡ 0
-          valid-inside = change-inside (λ p. 0) (λ p. pow_pos 32) itself ∙ none (among? named)
+          pub valid_inside : bits_inside shape named block (around_block shape named block) ≡ 0
+          valid_inside = change_inside (λ p. 0) (λ p. pow_pos 32) itself ∙ none (among? named)
 
-          pub valid-outside : bits_outside shape named block (around_block shape named block) ≡ 0
-          valid-outside = change-outside (λ p. 0) (λ p. pow_pos 32) itself ∙ none (λ p. not (among? named p))
+          pub valid_outside : bits_outside shape named block (around_block shape named block) ≡ 0
+          valid_outside = change_outside (λ p. 0) (λ p. pow_pos 32) itself ∙ none (λ p. not (among? named p))
 
       -- and a block of which no bit is changed was valid
-      pub unchanged-valid : lanes_lost_around shape named block ≡ 0 → bits_inside shape named block (around_block shape named block) ≡ 0
+      pub unchanged_valid : lanes_lost_around shape named block ≡ 0 → bits_inside shape named block (around_block shape named block) ≡ 0
           → bits_outside shape named block (around_block shape named block) ≡ 0 → ValidBlock shape block
       unfolding bits_inside bits_outside
-      unchanged-valid none no-inside no-outside i hi =
-          valid_same m (lane i (around_block shape named block)) (lane i block) (λ j h. sym (⊕-same _ _ (same j h))) (left-meant none i hi).valid
+      unchanged_valid none no-inside no-outside i hi =
+          valid_same m (lane i (around_block shape named block)) (lane i block) (λ j h. sym (⊕-same _ _ (same j h))) (left_meant none i hi).valid
         where
           either : (n d : Bool) → n && d ≡ false → not n && d ≡ false → d ≡ false
           either true d p q = p

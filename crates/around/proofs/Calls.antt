@@ -29,7 +29,7 @@ use Rattle.block.specs.Verdict.{verdict, verdict_of}
 use Rattle.block.proofs.Blocks.{counted_none, length_mended}
 use Rattle.block.proofs.Lanes.{ones_total}
 use Rattle.block.proofs.Decided.{decided}
-use Rattle.block.proofs.Told.{NotLost, not-lost, lost-some, kinds_lost, few_lost}
+use Rattle.block.proofs.Told.{NotLost, not_lost, lost_some, kinds_lost, few_lost}
 use Rattle.layout.specs.declared.Layout.{Layout}
 use Rattle.layout.specs.Layout.{shape_of, rows_of, index}
 use Rattle.layout.specs.Refusal.{block_refusal}
@@ -37,7 +37,7 @@ use Rattle.layout.proofs.Index.{stride}
 use Rattle.layout.proofs.Ladder.{accepted}
 use Rattle.store.specs.Image.{gathered, placed}
 use Rattle.store.specs.Visit.{visit_after}
-use Rattle.store.proofs.Image.{length-gathered, gathered-rest, length-placed, placed-gathered, placed-elsewhere, gathered-placed}
+use Rattle.store.proofs.Image.{length_gathered, gathered_rest, length_placed, placed_gathered, placed_elsewhere, gathered_placed}
 use Rattle.around.specs.declared.Around.TheVariants as answers
 use Rattle.around.specs.declared.solving.Told.{Told}
 use Rattle.around.specs.Named.{among?}
@@ -45,10 +45,10 @@ use Rattle.around.specs.Refusal.{misnamed?}
 use Rattle.around.specs.Block.{lanes_lost_around, around_block, bits_inside, bits_outside}
 use Rattle.around.specs.Inner.{more_rows, mark, changed_by, changed_at, RowInside, Solves, around_by, around_of, Looked, Mends}
 use Rattle.around.proofs.Lanes.{RowsTo}
-use Rattle.around.proofs.Blocks.{row_changed, around-lost, length-around, unchanged-valid}
-use Rattle.around.proofs.Images.{placed-over, placed_same, there, changed-placed}
+use Rattle.around.proofs.Blocks.{row_changed, around_lost, length_around, unchanged_valid}
+use Rattle.around.proofs.Images.{placed_over, placed_same, there, changed_placed}
 use Rattle.around.proofs.Marks.{RowOrNone}
-use Rattle.around.proofs.ThreeRows.{Three, three-within}
+use Rattle.around.proofs.ThreeRows.{Three, three_within}
 use Rattle.around.proofs.More as more
 use Rattle.around.proofs.One as one
 use Rattle.around.proofs.One.{left_lanes, turned_sums, wrong_lanes}
@@ -69,16 +69,16 @@ module _ {image : List ℕ} {layout : Layout} {block : ℕ} {shape : Shape} {at 
   code = gathered layout block image
 
   long : rows shape ≤ length code
-  long = rw (length-gathered layout block image) (rows_fit shape)
+  long = rw (length_gathered layout block image) (rows_fit shape)
 
   same_rows : rows shape ≡ rows_of layout
   same_rows = ap rows looked.same_shape
 
   -- ---- where a row lies
 
-  row-index : (r : ℕ) → 1 ≤ r → at + (r - 1) * layout.s ≡ index layout block r
-  row-index zero low = absurd (omega arith)
-  row-index (suc k) low =
+  row_index : (r : ℕ) → 1 ≤ r → at + (r - 1) * layout.s ≡ index layout block r
+  row_index zero low = absurd (omega arith)
+  row_index (suc k) low =
       let e : suc k - 1 ≡ k = omega arith in
       rw looked.first (ap (λ (j : ℕ). index layout block 1 + j * layout.s) e ∙ sym (stride (rows_of layout) layout.s block k))
 
@@ -88,7 +88,7 @@ module _ {image : List ℕ} {layout : Layout} {block : ℕ} {shape : Shape} {at 
         ok.geometry.s_last,
         low,
         omega (arith, rows_fit shape),
-        rw (size, row-index r low) (there layout block (length image) looked.passed r low (rw (← same_rows) high)),
+        rw (size, row_index r low) (there layout block (length image) looked.passed r low (rw (← same_rows) high)),
       )
 
   -- ---- a row changed
@@ -96,50 +96,50 @@ module _ {image : List ℕ} {layout : Layout} {block : ℕ} {shape : Shape} {at 
   abbrev Held : List ℕ → Type 0
   Held given = (length given ≡ 72) × ((k : ℕ) → rows_of layout ≤ k → get_or given k 0 ≡ 0)
 
-  code-held : Held code
-  code-held = (length-gathered layout block image, gathered-rest layout block image)
+  code_held : Held code
+  code_held = (length_gathered layout block image, gathered_rest layout block image)
 
-  flip-held : (given : List ℕ) → Held given → (r : ℕ) → 1 ≤ r → r ≤ rows shape → (w : ℕ) → Held (changed_at given (r - 1) w)
-  flip-held given h r low high w = (
+  flip_held : (given : List ℕ) → Held given → (r : ℕ) → 1 ≤ r → r ≤ rows shape → (w : ℕ) → Held (changed_at given (r - 1) w)
+  flip_held given h r low high w = (
     length-set given (r - 1) (bit_xor (get_or given (r - 1) 0) w) ∙ h.0,
     λ k l. get_or-set_other given (r - 1) k (bit_xor (get_or given (r - 1) 0) w) 0 (λ q. omega (arith, same_rows)) ∙ h.1 k l,
   )
 
-  flip-placed : (given now : List ℕ) → Held given → now ≡ placed layout block given image → (r : ℕ) → 1 ≤ r → r ≤ rows shape → (w : ℕ)
+  flip_placed : (given now : List ℕ) → Held given → now ≡ placed layout block given image → (r : ℕ) → 1 ≤ r → r ≤ rows shape → (w : ℕ)
       → changed_at now (at + (r - 1) * layout.s) w ≡ placed layout block (changed_at given (r - 1) w) image
-  flip-placed given now h e r low high w =
-      rw (e, row-index r low)
-      (changed-placed layout block (length image) looked.passed r low (rw (← same_rows) high) w given image refl h.0 h.1)
+  flip_placed given now h e r low high w =
+      rw (e, row_index r low)
+      (changed_placed layout block (length image) looked.passed r low (rw (← same_rows) high) w given image refl h.0 h.1)
 
   -- ---- lost, and mended
 
   module _ (r : ℕ) (named : List ℕ) where
-    lost-mends : (n : ℕ) → n ≡ lanes_lost_around shape (r ∷ named) code → (n ≡ 0 → ⊥) → Mends image layout block shape (r ∷ named) (answers.LostAround n) image
+    lost_mends : (n : ℕ) → n ≡ lanes_lost_around shape (r ∷ named) code → (n ≡ 0 → ⊥) → Mends image layout block shape (r ∷ named) (answers.LostAround n) image
     unfolding around_of
-    lost-mends n e ne =
+    lost_mends n e ne =
         record {
           says = ap answers.LostAround e ∙ by_lost r named (lanes_lost_around shape (r ∷ named) code) _ _ _ (λ z. ne (e ∙ z));
-          leaves = sym (ap (λ (b : List ℕ). placed layout block b image) (kept n e ne) ∙ placed-gathered layout block image);
+          leaves = sym (ap (λ (b : List ℕ). placed layout block b image) (kept n e ne) ∙ placed_gathered layout block image);
         }
       where
         kept : (n : ℕ) → n ≡ lanes_lost_around shape (r ∷ named) code → (n ≡ 0 → ⊥) → around_block shape (r ∷ named) code ≡ code
         kept zero e ne = absurd (ne refl)
-        kept (suc n) e ne = around-lost shape (r ∷ named) code n (sym e)
+        kept (suc n) e ne = around_lost shape (r ∷ named) code n (sym e)
 
-  mended-mends : (named : List ℕ) → RowsTo (rows shape) named → lanes_lost_around shape named code ≡ 0 → (i o : ℕ)
+  mended_mends : (named : List ℕ) → RowsTo (rows shape) named → lanes_lost_around shape named code ≡ 0 → (i o : ℕ)
       → i ≡ bits_inside shape named code (around_block shape named code) → o ≡ bits_outside shape named code (around_block shape named code)
       → (given after : List ℕ) → length given ≡ 72 → SameRows shape given (around_block shape named code) → after ≡ placed layout block given image
       → Mends image layout block shape named (answers.Mended i o) after
   unfolding around_of
-  mended-mends named within none i o ei eo given after size same e =
+  mended_mends named within none i o ei eo given after size same e =
       record {
         says =
             by_mended named (lanes_lost_as shape code) i o
-            (λ zi zo. looked.doubt (unchanged-valid shape named code long within none (sym ei ∙ zi) (sym eo ∙ zo)))
+            (λ zi zo. looked.doubt (unchanged_valid shape named code long within none (sym ei ∙ zi) (sym eo ∙ zo)))
             ∙ rw (none, ← ei, ← eo);
         leaves =
             e
-            ∙ placed_same layout block given (around_block shape named code) image size (length-around shape named code ∙ length-gathered layout block image)
+            ∙ placed_same layout block given (around_block shape named code) image size (length_around shape named code ∙ length_gathered layout block image)
             (λ k h. same k (rw same_rows h));
       }
 
@@ -185,9 +185,9 @@ three_named m small a b zero e =
     let p = named_row (suc m) a (b ∷ []) e in
     let q = named_row (suc m) b [] p.3 in
     record {
-      a-row = (p.0, p.1);
-      b-row = (q.0, q.1);
-      c-row = inl refl;
+      a_row = (p.0, p.1);
+      b_row = (q.0, q.1);
+      c_row = inl refl;
       a_b = (another a b [] p.2).0;
       a_c = λ z. omega (arith, p.0);
       b_c = λ z. omega (arith, q.0);
@@ -198,9 +198,9 @@ three_named m small a b (suc c) e =
     let s = named_row (suc m) (suc c) [] q.3 in
     let t = another a b (suc c ∷ []) p.2 in
     record {
-      a-row = (p.0, p.1);
-      b-row = (q.0, q.1);
-      c-row = inr (s.0, s.1);
+      a_row = (p.0, p.1);
+      b_row = (q.0, q.1);
+      c_row = inr (s.0, s.1);
       a_b = t.0;
       a_c = (another a (suc c) [] t.1).0;
       b_c = (another b (suc c) [] q.2).0;
@@ -222,88 +222,88 @@ module _ {image : List ℕ} {layout : Layout} {block : ℕ} {shape : Shape} {at 
   abbrev size : rows shape ≤ length found
   size = long looked
 
-  abbrev wrongIn : ℕ
-  wrongIn = wrong_lanes (mark (rows shape) r) sums
+  abbrev wrong_in : ℕ
+  wrong_in = wrong_lanes (mark (rows shape) r) sums
 
-  abbrev leftIn : ℕ
-  leftIn = left_lanes (mark (rows shape) r) sums
+  abbrev left_in : ℕ
+  left_in = left_lanes (mark (rows shape) r) sums
 
   abbrev turned : List ℕ
-  turned = changed_at found (r - 1) wrongIn
+  turned = changed_at found (r - 1) wrong_in
 
-  pub row-there : (1 ≤ r) × (r ≤ rows shape)
-  row-there = (low, high)
+  pub row_there : (1 ≤ r) × (r ≤ rows shape)
+  row_there = (low, high)
 
-  turned-held : Held looked turned
-  turned-held = flip-held looked found (code-held looked) r low high wrongIn
+  turned_held : Held looked turned
+  turned_held = flip_held looked found (code_held looked) r low high wrong_in
 
-  turned-long : rows shape ≤ length turned
-  turned-long = rw turned-held.0 (rows_fit shape)
+  turned_long : rows shape ≤ length turned
+  turned_long = rw turned_held.0 (rows_fit shape)
 
   module _ (v : Verdict) (decides : Decides shape (turned_sums (mark (rows shape) r) sums) v) where
     judged : v ≡ verdict_of shape turned
-    judged = decided shape turned turned-long (one.second-are shape found size r low high looked.are) decides
+    judged = decided shape turned turned_long (one.second-are shape found size r low high looked.are) decides
 
-    pub one-lost : (e b : ℕ) → v ≡ Lost e b → (e + b ≤ 32) × Mends image layout block shape (r ∷ []) (answers.LostAround (e + b)) image
-    one-lost e b says =
+    pub one_lost : (e b : ℕ) → v ≡ Lost e b → (e + b ≤ 32) × Mends image layout block shape (r ∷ []) (answers.LostAround (e + b)) image
+    one_lost e b says =
         let lost = lost_lanes_lem shape turned e b (sym judged ∙ says) in (
           omega (arith, lost, few_lost shape turned),
-          lost-mends looked r [] (e + b) (lost ∙ one.lost-turned shape found size r low high looked.are)
-              (λ z. lost-some shape turned v judged e b says (sym lost ∙ z)),
+          lost_mends looked r [] (e + b) (lost ∙ one.lost-turned shape found size r low high looked.are)
+              (λ z. lost_some shape turned v judged e b says (sym lost ∙ z)),
         )
 
-    module _ (kept : NotLost v) (now : List ℕ) (flipped : now ≡ changed_at image (at + (r - 1) * layout.s) wrongIn) where
+    module _ (kept : NotLost v) (now : List ℕ) (flipped : now ≡ changed_at image (at + (r - 1) * layout.s) wrong_in) where
       none : lanes_lost shape turned ≡ 0
-      none = not-lost shape turned v judged kept
+      none = not_lost shape turned v judged kept
 
-      none-around : lanes_lost_around shape (r ∷ []) found ≡ 0
-      none-around = sym (one.lost-turned shape found size r low high looked.are) ∙ none
+      none_around : lanes_lost_around shape (r ∷ []) found ≡ 0
+      none_around = sym (one.lost-turned shape found size r low high looked.are) ∙ none
 
-      now-placed : now ≡ placed layout block turned image
-      now-placed = flipped ∙ flip-placed looked found image (code-held looked) (sym (placed-gathered layout block image)) r low high wrongIn
+      now_placed : now ≡ placed layout block turned image
+      now_placed = flipped ∙ flip_placed looked found image (code_held looked) (sym (placed_gathered layout block image)) r low high wrong_in
 
       within : RowsTo (rows shape) (r ∷ [])
       within = (low, high, tt)
 
       -- no sum is left: the row alone was wrong
-      pub one-alone : leftIn ≡ 0 → Mends image layout block shape (r ∷ []) (answers.Mended (ones wrongIn) 0) now
-      one-alone no-left =
-          mended-mends looked (r ∷ []) within none-around (ones wrongIn) 0
+      pub one_alone : left_in ≡ 0 → Mends image layout block shape (r ∷ []) (answers.Mended (ones wrong_in) 0) now
+      one_alone no-left =
+          mended_mends looked (r ∷ []) within none_around (ones wrong_in) 0
           (sym (one.one_inside shape found size r low high looked.are none))
           (sym (one.one_outside shape found size r low high looked.are none ∙ ap ones no-left))
-          turned now turned-held.0
+          turned now turned_held.0
           (λ j h.
           ap (λ (b : List ℕ). get_or b j 0) (sym (one.one-alone shape found size r low high looked.are none no-left))
           ∙ one.one_rows shape found size r low high looked.are none j h)
-          now-placed
+          now_placed
 
       -- and where one is, a visit mends the others
-      pub one-visited : (after : List ℕ) → after ≡ visit_after now layout block
-          → Mends image layout block shape (r ∷ []) (answers.Mended (ones wrongIn) (ones leftIn)) after
-      one-visited after e =
-          mended-mends looked (r ∷ []) within none-around (ones wrongIn) (ones leftIn)
+      pub one_visited : (after : List ℕ) → after ≡ visit_after now layout block
+          → Mends image layout block shape (r ∷ []) (answers.Mended (ones wrong_in) (ones left_in)) after
+      one_visited after e =
+          mended_mends looked (r ∷ []) within none_around (ones wrong_in) (ones left_in)
           (sym (one.one_inside shape found size r low high looked.are none))
           (sym (one.one_outside shape found size r low high looked.are none))
           (mended_block shape turned) after
-          (length_mended shape turned ∙ turned-held.0)
+          (length_mended shape turned ∙ turned_held.0)
           (one.one_rows shape found size r low high looked.are none)
           (e ∙ visited)
         where
           held : gathered layout block now ≡ turned
           held =
-              rw now-placed
-              (gathered-placed layout block (accepted layout (length image) block looked.passed).geometry.s_first turned image
-              (there layout block (length image) looked.passed) turned-held.0 turned-held.1)
+              rw now_placed
+              (gathered_placed layout block (accepted layout (length image) block looked.passed).geometry.s_first turned image
+              (there layout block (length image) looked.passed) turned_held.0 turned_held.1)
 
           same_size : length now ≡ length image
-          same_size = rw now-placed (length-placed layout block turned image)
+          same_size = rw now_placed (length_placed layout block turned image)
 
           visited : visit_after now layout block ≡ placed layout block (mended_block shape turned) image
           visited =
               unfold visit_after in
               rw (same_size, looked.passed, held, ← looked.same_shape)
-              (placed-over layout block (mended_block shape turned) now image same_size
-              (λ i none. rw now-placed (placed-elsewhere layout block turned image i none)))
+              (placed_over layout block (mended_block shape turned) now image same_size
+              (λ i none. rw now_placed (placed_elsewhere layout block turned image i none)))
 
 -- ---- two or three
 
@@ -316,14 +316,14 @@ module _ {image : List ℕ} {layout : Layout} {block : ℕ} {shape : Shape} {at 
   seen = gathered layout block image
 
   module _ {told : Told} {left : List ℕ} (solved : Solves sums (mark (rows shape) a) (mark (rows shape) b) (mark (rows shape) c) told left) where
-    pub more-lost : any_of 7 left < 2 ^ 32 → (any_of 7 left ≡ 0 → ⊥)
+    pub more_lost : any_of 7 left < 2 ^ 32 → (any_of 7 left ≡ 0 → ⊥)
         → Mends image layout block shape (more_rows a b c) (answers.LostAround (ones (any_of 7 left))) image
-    more-lost small some = by c (more.lost-count shape seen (long looked) three looked.are solved small)
+    more_lost small some = by c (more.lost-count shape seen (long looked) three looked.are solved small)
       where
         by : (c : ℕ) → ones (any_of 7 left) ≡ lanes_lost_around shape (more_rows a b c) seen
             → Mends image layout block shape (more_rows a b c) (answers.LostAround (ones (any_of 7 left))) image
-        by zero e = lost-mends looked a (b ∷ []) (ones (any_of 7 left)) e (λ z. some (ones_none (any_of 7 left) small z))
-        by (suc c) e = lost-mends looked a (b ∷ suc c ∷ []) (ones (any_of 7 left)) e (λ z. some (ones_none (any_of 7 left) small z))
+        by zero e = lost_mends looked a (b ∷ []) (ones (any_of 7 left)) e (λ z. some (ones_none (any_of 7 left) small z))
+        by (suc c) e = lost_mends looked a (b ∷ suc c ∷ []) (ones (any_of 7 left)) e (λ z. some (ones_none (any_of 7 left) small z))
 
     -- ---- where nothing is left
 
@@ -332,41 +332,41 @@ module _ {image : List ℕ} {layout : Layout} {block : ℕ} {shape : Shape} {at 
       abbrev two : List ℕ
       two = changed_at (changed_at seen (a - 1) told.a) (b - 1) told.b
 
-      abbrev three-flipped : List ℕ
-      three-flipped = changed_at two (c - 1) told.c
+      abbrev three_flipped : List ℕ
+      three_flipped = changed_at two (c - 1) told.c
 
-      first-held : Held looked (changed_at seen (a - 1) told.a)
-      first-held = flip-held looked seen (code-held looked) a three.a-row.0 three.a-row.1 told.a
+      first_held : Held looked (changed_at seen (a - 1) told.a)
+      first_held = flip_held looked seen (code_held looked) a three.a-row.0 three.a-row.1 told.a
 
-      two-held : Held looked two
-      two-held = flip-held looked (changed_at seen (a - 1) told.a) first-held b three.b-row.0 three.b-row.1 told.b
+      two_held : Held looked two
+      two_held = flip_held looked (changed_at seen (a - 1) told.a) first_held b three.b-row.0 three.b-row.1 told.b
 
-      two-placed : (first second : List ℕ) → first ≡ changed_at image (at + (a - 1) * layout.s) told.a
+      two_placed : (first second : List ℕ) → first ≡ changed_at image (at + (a - 1) * layout.s) told.a
           → second ≡ changed_at first (at + (b - 1) * layout.s) told.b
           → second ≡ placed layout block two image
-      two-placed first second e f =
+      two_placed first second e f =
           f
-          ∙ flip-placed looked (changed_at seen (a - 1) told.a) first first-held
-          (e ∙ flip-placed looked seen image (code-held looked) (sym (placed-gathered layout block image)) a three.a-row.0 three.a-row.1 told.a)
+          ∙ flip_placed looked (changed_at seen (a - 1) told.a) first first_held
+          (e ∙ flip_placed looked seen image (code_held looked) (sym (placed_gathered layout block image)) a three.a-row.0 three.a-row.1 told.a)
           b three.b-row.0 three.b-row.1 told.b
 
-      two-row : (j : ℕ) → j < rows shape → get_or two j 0 ≡ bit_xor (bit_xor (get_or seen j 0) (pick (eqb (suc j) a) told.a)) (pick (eqb (suc j) b) told.b)
-      two-row j h =
+      two_row : (j : ℕ) → j < rows shape → get_or two j 0 ≡ bit_xor (bit_xor (get_or seen j 0) (pick (eqb (suc j) a) told.a)) (pick (eqb (suc j) b) told.b)
+      two_row j h =
           let size = rows_fit shape in
-          row_changed (changed_at seen (a - 1) told.a) b told.b three.b-row.0 j (omega (arith, first-held.0, size))
+          row_changed (changed_at seen (a - 1) told.a) b told.b three.b-row.0 j (omega (arith, first_held.0, size))
           ∙ ap (λ (w : ℕ). bit_xor w (pick (eqb (suc j) b) told.b))
-          (row_changed seen a told.a three.a-row.0 j (omega (arith, length-gathered layout block image, size)))
+          (row_changed seen a told.a three.a-row.0 j (omega (arith, length_gathered layout block image, size)))
 
       counted : ones told.a + ones told.b + ones told.c ≡ bits_inside shape (more_rows a b c) seen (around_block shape (more_rows a b c) seen)
       counted = sym (more.more-inside shape seen (long looked) three looked.are solved none fa fb fc)
 
       -- mended, where the rows given are those changed so
-      mended-so : (given after : List ℕ) → length given ≡ 72 → after ≡ placed layout block given image
+      mended_so : (given after : List ℕ) → length given ≡ 72 → after ≡ placed layout block given image
           → ((j : ℕ) → j < rows shape → get_or given j 0
           ≡ bit_xor (bit_xor (bit_xor (get_or seen j 0) (pick (eqb (suc j) a) told.a)) (pick (eqb (suc j) b) told.b)) (pick (eqb (suc j) c) told.c))
           → Mends image layout block shape (more_rows a b c) (answers.Mended (ones told.a + ones told.b + ones told.c) 0) after
-      mended-so given after size e row =
-          mended-mends looked (more_rows a b c) (three-within (before shape) (before_small shape) three)
+      mended_so given after size e row =
+          mended_mends looked (more_rows a b c) (three_within (before shape) (before_small shape) three)
           (more.more-none shape seen (long looked) three looked.are solved none fa fb fc)
           (ones told.a + ones told.b + ones told.c) 0 counted
           (sym (more.more-outside shape seen (long looked) three looked.are solved none fa fb fc))
@@ -381,35 +381,35 @@ module _ {image : List ℕ} {layout : Layout} {block : ℕ} {shape : Shape} {at 
           e
 
       -- two rows
-      pub more-two : c ≡ 0 → (first second : List ℕ) → first ≡ changed_at image (at + (a - 1) * layout.s) told.a
+      pub more_two : c ≡ 0 → (first second : List ℕ) → first ≡ changed_at image (at + (a - 1) * layout.s) told.a
           → second ≡ changed_at first (at + (b - 1) * layout.s) told.b
           → Mends image layout block shape (more_rows a b c) (answers.Mended (ones told.a + ones told.b) 0) second
-      more-two zero-c first second e f =
+      more_two zero-c first second e f =
           let no_third : told.c ≡ 0 = solved.no_third (ap (mark (rows shape)) zero-c) in
-          let sum : ones told.a + ones told.b + ones told.c ≡ ones told.a + ones told.b = omega (arith, ap ones no_third, ones-zero) in
+          let sum : ones told.a + ones told.b + ones told.c ≡ ones told.a + ones told.b = omega (arith, ap ones no_third, ones_zero) in
           rw (← sum)
-          (mended-so two second two-held.0 (two-placed first second e f)
-          (λ j h. two-row j h ∙ sym (ap (λ (w : ℕ). bit_xor (bit_xor (bit_xor (get_or seen j 0) (pick (eqb (suc j) a) told.a)) (pick (eqb (suc j) b) told.b)) w)
-          (ap (pick (eqb (suc j) c)) no_third ∙ pick-none (eqb (suc j) c)) ∙ xor_zero_r _)))
+          (mended_so two second two_held.0 (two_placed first second e f)
+          (λ j h. two_row j h ∙ sym (ap (λ (w : ℕ). bit_xor (bit_xor (bit_xor (get_or seen j 0) (pick (eqb (suc j) a) told.a)) (pick (eqb (suc j) b) told.b)) w)
+          (ap (pick (eqb (suc j) c)) no_third ∙ pick_none (eqb (suc j) c)) ∙ xor_zero_r _)))
         where
-          pick-none : (t : Bool) → pick t 0 ≡ 0
-          pick-none true = refl
-          pick-none false = refl
+          pick_none : (t : Bool) → pick t 0 ≡ 0
+          pick_none true = refl
+          pick_none false = refl
 
-          ones-zero : ones 0 ≡ 0
-          ones-zero = unfold ones in refl
+          ones_zero : ones 0 ≡ 0
+          ones_zero = unfold ones in refl
 
       -- three
-      pub more-three : (c ≡ 0 → ⊥) → (first second third : List ℕ) → first ≡ changed_at image (at + (a - 1) * layout.s) told.a
+      pub more_three : (c ≡ 0 → ⊥) → (first second third : List ℕ) → first ≡ changed_at image (at + (a - 1) * layout.s) told.a
           → second ≡ changed_at first (at + (b - 1) * layout.s) told.b
           → third ≡ changed_at second (at + (c - 1) * layout.s) told.c
           → Mends image layout block shape (more_rows a b c) (answers.Mended (ones told.a + ones told.b + ones told.c) 0) third
-      more-three some first second third e f g =
-          let there = third-row three.c-row in
-          mended-so three-flipped third (flip-held looked two two-held c there.0 there.1 told.c).0
-          (g ∙ flip-placed looked two second two-held (two-placed first second e f) c there.0 there.1 told.c)
+      more_three some first second third e f g =
+          let there = third_row three.c-row in
+          mended_so three_flipped third (flip_held looked two two_held c there.0 there.1 told.c).0
+          (g ∙ flip_placed looked two second two_held (two_placed first second e f) c there.0 there.1 told.c)
           (λ j h.
-          row_changed two c told.c there.0 j (omega (arith, two-held.0, rows_fit shape)) ∙ ap (λ (w : ℕ). bit_xor w (pick (eqb (suc j) c) told.c)) (two-row j h))
+          row_changed two c told.c there.0 j (omega (arith, two_held.0, rows_fit shape)) ∙ ap (λ (w : ℕ). bit_xor w (pick (eqb (suc j) c) told.c)) (two_row j h))
         where
-          third-row : RowOrNone (before shape) c → (1 ≤ c) × (c ≤ rows shape)
-          third-row h = ⊎_elim (λ z. absurd (some z)) (λ r. r) h
+          third_row : RowOrNone (before shape) c → (1 ≤ c) × (c ≤ rows shape)
+          third_row h = ⊎_elim (λ z. absurd (some z)) (λ r. r) h

@@ -24,24 +24,24 @@ module _ (mark lanes : ℕ) (sums : List ℕ) where
   digit k = bit_xor (get_or sums k 0) (pick (bit k mark) lanes)
 
   -- the first n are changed
-  abbrev pub changedTo : ℕ → List ℕ
-  changedTo n = stores sums (λ k. k) digit n
+  abbrev pub changed_to : ℕ → List ℕ
+  changed_to n = stores sums (λ k. k) digit n
 
-  change-more : (n : ℕ) → set (changedTo n) n (bit_xor (get_or (changedTo n) n 0) (pick (bit n mark) lanes)) ≡ changedTo (suc n)
+  change_more : (n : ℕ) → set (changed_to n) n (bit_xor (get_or (changed_to n) n 0) (pick (bit n mark) lanes)) ≡ changed_to (suc n)
   unfolding stores
-  change-more n = rw (stores_miss sums (λ k. k) digit n n (λ k l e. omega arith))
+  change_more n = rw (stores_miss sums (λ k. k) digit n n (λ k l e. omega arith))
 
-  pub change-one : (n : ℕ) → bit n mark ≡ true → set (changedTo n) n (bit_xor (get_or (changedTo n) n 0) lanes) ≡ changedTo (suc n)
-  change-one n e = rw e at (change-more n)
+  pub change_one : (n : ℕ) → bit n mark ≡ true → set (changed_to n) n (bit_xor (get_or (changed_to n) n 0) lanes) ≡ changed_to (suc n)
+  change_one n e = rw e at (change_more n)
 
-  pub change-none : (n : ℕ) → bit n mark ≡ false → changedTo n ≡ changedTo (suc n)
-  change-none n e = sym (set-get_or (changedTo n) n 0) ∙ rw (← change-more n, e, xor_zero_r)
+  pub change_none : (n : ℕ) → bit n mark ≡ false → changed_to n ≡ changed_to (suc n)
+  change_none n e = sym (set-get_or (changed_to n) n 0) ∙ rw (← change_more n, e, xor_zero_r)
 
-  pub changed-all : length sums ≡ 8 → changedTo 8 ≡ changed_by mark lanes sums
+  pub changed_all : length sums ≡ 8 → changed_to 8 ≡ changed_by mark lanes sums
   unfolding changed_by
-  changed-all e =
-      list_is 8 (changedTo 8) digit (length_stores sums (λ k. k) digit 8 ∙ e) (λ j l. stores_hit sums (λ k. k) digit j 8 (λ k h q. q) l (omega arith))
+  changed_all e =
+      list_is 8 (changed_to 8) digit (length_stores sums (λ k. k) digit 8 ∙ e) (λ j l. stores_hit sums (λ k. k) digit j 8 (λ k h q. q) l (omega arith))
 
-  pub bit-changed : (i k : ℕ) → k < 8 → bit i (get_or (changed_by mark lanes sums) k 0) ≡ bit i (get_or sums k 0) ⊕ (bit k mark && bit i lanes)
+  pub bit_changed : (i k : ℕ) → k < 8 → bit i (get_or (changed_by mark lanes sums) k 0) ≡ bit i (get_or sums k 0) ⊕ (bit k mark && bit i lanes)
   unfolding changed_by
-  bit-changed i k l = rw (get_or_list_of 8 digit k l, bit_of_xor, pick_bit)
+  bit_changed i k l = rw (get_or_list_of 8 digit k l, bit_of_xor, pick_bit)

@@ -15,17 +15,17 @@ use Rattle.ground.specs.Stores.{stores}
 use Rattle.ground.proofs.Stores.{length_stores, stores_agree}
 use Rattle.shape.proofs.Sizes.{rows_fit}
 use Rattle.stored.specs.Stored.{mask, complemented_in, complemented}
-use Rattle.stored.proofs.Forms.{row-complemented}
+use Rattle.stored.proofs.Forms.{row_complemented}
 use Rattle.block.specs.Block.{SameRows, mended_block}
 use Rattle.block.proofs.Blocks.{length_mended}
 use Rattle.layout.specs.declared.Layout.{Layout}
 use Rattle.layout.specs.Layout.{shape_of, rows_of, index}
 use Rattle.layout.specs.Refusal.{block_refusal}
-use Rattle.layout.proofs.Index.{stride, one-to-one, in-range}
+use Rattle.layout.proofs.Index.{stride, one_to_one, in_range}
 use Rattle.layout.proofs.Ladder.{accepted}
 use Rattle.store.specs.Image.{gathered, placed, with_rows}
 use Rattle.store.specs.Visit.{visit_after}
-use Rattle.store.proofs.Image.{length-gathered, gathered-rest, gathered-row, length-placed, placed-gathered, placed-elsewhere, gathered-placed}
+use Rattle.store.proofs.Image.{length_gathered, gathered_rest, gathered_row, length_placed, placed_gathered, placed_elsewhere, gathered_placed}
 use Rattle.around.specs.Inner.{changed_at}
 
 xor_late : (x y z : ℕ) → bit_xor (bit_xor x y) z ≡ bit_xor (bit_xor x z) y
@@ -52,11 +52,11 @@ stores_over d e f v i (suc n) h len agree =
 
 module _ (layout : Layout) (block : ℕ) where
   -- what a block is placed over counts only elsewhere
-  pub placed-over : (given a b : List ℕ) → length a ≡ length b
+  pub placed_over : (given a b : List ℕ) → length a ≡ length b
       → ((i : ℕ) → ((p : ℕ) → 1 ≤ p → p ≤ rows_of layout → i ≡ index layout block p → ⊥) → get_or a i 0 ≡ get_or b i 0)
       → placed layout block given a ≡ placed layout block given b
   unfolding placed with_rows
-  placed-over given a b len agree =
+  placed_over given a b len agree =
       let f : ℕ → ℕ = λ k. index layout block (suc k) in
       let v : ℕ → ℕ = λ k. get_or (complemented given) k 0 in
       ext_get_or 0 _ _ (length_stores a f v (rows_of layout) ∙ len ∙ sym (length_stores b f v (rows_of layout)))
@@ -75,8 +75,8 @@ module _ (layout : Layout) (block : ℕ) where
   placed_same a b image la lb same =
       stores_agree image (λ k. index layout block (suc k)) _ _ (rows_of layout)
       (λ k h.
-      row-complemented a k (omega (arith, rows_fit (shape_of layout))) ∙ ap (complemented_in (suc k)) (same k h)
-      ∙ sym (row-complemented b k (omega (arith, rows_fit (shape_of layout)))))
+      row_complemented a k (omega (arith, rows_fit (shape_of layout))) ∙ ap (complemented_in (suc k)) (same k h)
+      ∙ sym (row_complemented b k (omega (arith, rows_fit (shape_of layout)))))
 
   -- ---- in an image where the block lies
 
@@ -87,16 +87,16 @@ module _ (layout : Layout) (block : ℕ) where
     pub there : (p : ℕ) → 1 ≤ p → p ≤ rows_of layout → index layout block p < len
     there p l h =
         let ok = accepted layout len block passed in
-        rw ok.exact (in-range (rows_of layout) layout.s ok.geometry.s_first layout.g block p ok.inside l h)
+        rw ok.exact (in_range (rows_of layout) layout.s ok.geometry.s_first layout.g block p ok.inside l h)
 
     module _ (r : ℕ) (low : 1 ≤ r) (high : r ≤ rows_of layout) (w : ℕ) where
       -- a word of the block changed where it lies
-      gathered-changed : (image : List ℕ) → length image ≡ len
+      gathered_changed : (image : List ℕ) → length image ≡ len
           → gathered layout block (changed_at image (index layout block r) w) ≡ changed_at (gathered layout block image) (r - 1) w
-      gathered-changed image size =
+      gathered_changed image size =
           ext_get_or 0 _ _
-          (length-gathered layout block (changed_at image (index layout block r) w)
-          ∙ sym (length-set (gathered layout block image) (r - 1) _ ∙ length-gathered layout block image))
+          (length_gathered layout block (changed_at image (index layout block r) w)
+          ∙ sym (length-set (gathered layout block image) (r - 1) _ ∙ length_gathered layout block image))
           (λ k h. ⊎_elim (row k) (rest k) (split_below k (rows_of layout)))
         where
           at : ℕ
@@ -110,7 +110,7 @@ module _ (layout : Layout) (block : ℕ) where
 
           row : (k : ℕ) → k < rows_of layout → get_or (gathered layout block changed) k 0 ≡ get_or (changed_at code (r - 1) w) k 0
           row k h =
-              gathered-row layout block changed k h
+              gathered_row layout block changed k h
               ∙ by_cases (ℕ_discrete (suc k) r)
               (λ e.
               let j : k ≡ r - 1 = omega arith in
@@ -119,36 +119,36 @@ module _ (layout : Layout) (block : ℕ) where
               ∙ get_or-set_same image (index layout block r) (bit_xor (get_or image (index layout block r) 0) w) 0 (rw size (there r low high)))
               ∙ xor_late (get_or image (index layout block r) 0) w (mask (suc k))
               ∙ ap (λ (p : ℕ). bit_xor (complemented_in (suc k) (get_or image (index layout block p) 0)) w) (sym e)
-              ∙ ap (λ (x : ℕ). bit_xor x w) (sym (gathered-row layout block image k h))
+              ∙ ap (λ (x : ℕ). bit_xor x w) (sym (gathered_row layout block image k h))
               ∙ sym
               (ap (λ (p : ℕ). get_or (changed_at code (r - 1) w) p 0) j
               ∙ get_or-set_same code (r - 1) (bit_xor (get_or code (r - 1) 0) w) 0
-              (omega (arith, length-gathered layout block image, rows_fit (shape_of layout)))
+              (omega (arith, length_gathered layout block image, rows_fit (shape_of layout)))
               ∙ ap (λ (p : ℕ). bit_xor (get_or code p 0) w) (sym j)))
               (λ ne.
               ap (complemented_in (suc k))
               (get_or-set_other image (index layout block r) (index layout block (suc k)) (bit_xor (get_or image (index layout block r) 0) w) 0
-              (λ q. ne (one-to-one (rows_of layout) layout.s first block (suc k) block r (omega arith) h low high q).1))
-              ∙ sym (gathered-row layout block image k h)
+              (λ q. ne (one_to_one (rows_of layout) layout.s first block (suc k) block r (omega arith) h low high q).1))
+              ∙ sym (gathered_row layout block image k h)
               ∙ sym (get_or-set_other code (r - 1) k (bit_xor (get_or code (r - 1) 0) w) 0 (λ q. ne (omega arith))))
 
           rest : (k : ℕ) → rows_of layout ≤ k → get_or (gathered layout block changed) k 0 ≡ get_or (changed_at code (r - 1) w) k 0
           rest k h =
-              gathered-rest layout block changed k h
-              ∙ sym (get_or-set_other code (r - 1) k (bit_xor (get_or code (r - 1) 0) w) 0 (λ q. omega arith) ∙ gathered-rest layout block image k h)
+              gathered_rest layout block changed k h
+              ∙ sym (get_or-set_other code (r - 1) k (bit_xor (get_or code (r - 1) 0) w) 0 (λ q. omega arith) ∙ gathered_rest layout block image k h)
 
       -- places the block with that row changed
-      pub changed-placed : (code image : List ℕ) → length image ≡ len → length code ≡ 72 → ((k : ℕ) → rows_of layout ≤ k → get_or code k 0 ≡ 0)
+      pub changed_placed : (code image : List ℕ) → length image ≡ len → length code ≡ 72 → ((k : ℕ) → rows_of layout ≤ k → get_or code k 0 ≡ 0)
           → changed_at (placed layout block code image) (index layout block r) w ≡ placed layout block (changed_at code (r - 1) w) image
-      changed-placed code image size long zeros =
+      changed_placed code image size long zeros =
           let now = placed layout block code image in
-          let now-size : length now ≡ len = length-placed layout block code image ∙ size in
+          let now_size : length now ≡ len = length_placed layout block code image ∙ size in
           let at = index layout block r in
           let held : gathered layout block now ≡ code =
-          gathered-placed layout block first code image (λ p l h. rw size (there p l h)) long zeros in
-          sym (placed-gathered layout block (changed_at now at w))
-          ∙ ap (λ (b : List ℕ). placed layout block b (changed_at now at w)) (gathered-changed now now-size ∙ ap (λ (b : List ℕ). changed_at b (r - 1) w) held)
-          ∙ placed-over (changed_at code (r - 1) w) (changed_at now at w) image
-          (length-set now at (bit_xor (get_or now at 0) w) ∙ now-size ∙ sym size)
+          gathered_placed layout block first code image (λ p l h. rw size (there p l h)) long zeros in
+          sym (placed_gathered layout block (changed_at now at w))
+          ∙ ap (λ (b : List ℕ). placed layout block b (changed_at now at w)) (gathered_changed now now_size ∙ ap (λ (b : List ℕ). changed_at b (r - 1) w) held)
+          ∙ placed_over (changed_at code (r - 1) w) (changed_at now at w) image
+          (length-set now at (bit_xor (get_or now at 0) w) ∙ now_size ∙ sym size)
           (λ i none.
-          get_or-set_other now at i (bit_xor (get_or now at 0) w) 0 (none r low high) ∙ placed-elsewhere layout block code image i none)
+          get_or-set_other now at i (bit_xor (get_or now at 0) w) 0 (none r low high) ∙ placed_elsewhere layout block code image i none)

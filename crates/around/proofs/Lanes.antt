@@ -16,7 +16,7 @@ use Rattle.lane.proofs.Bits.{⊕-zero, ⊕-one, pick_one}
 use Rattle.lane.proofs.Linear.{count_same, valid_same}
 use Rattle.lane.proofs.Distance.{empty, ⊕-same, near_equal}
 use Rattle.lane.proofs.Decided.{only, flip_sum, flip_last, flip_odd}
-use Rattle.lane.proofs.Mended.{⊕-cancel, count_empty, mended-valid, mended-near, near-kept}
+use Rattle.lane.proofs.Mended.{⊕-cancel, count_empty, mended_valid, mended_near, near_kept}
 use Rattle.lane.proofs.Few.{count_single}
 use Rattle.around.specs.Named.{among?, spare?}
 use Rattle.around.specs.Lane.{inside, outside, MeantLane, weight, settled, lost_around?, changes_around, lane_lost?, lane_changes, lane_around}
@@ -69,8 +69,8 @@ count_among n (r ∷ named) =
 -- ---- a flip of a named row
 
 module _ (m : ℕ) where
-  flip-weight : (r : ℕ) (f : Lane) → 1 ≤ r → r ≤ suc m → sum m (diff f (only r)) ≡ bit_xor (sum m f) (weight m r)
-  flip-weight r f l h = go (leb r m) refl
+  flip_weight : (r : ℕ) (f : Lane) → 1 ≤ r → r ≤ suc m → sum m (diff f (only r)) ≡ bit_xor (sum m f) (weight m r)
+  flip_weight r f l h = go (leb r m) refl
     where
       go : (t : Bool) → leb r m ≡ t → sum m (diff f (only r)) ≡ bit_xor (sum m f) (cond t r 0)
       go true e = flip_sum m r f l (leb-true r m e)
@@ -79,8 +79,8 @@ module _ (m : ℕ) where
           let last : r ≡ suc m = omega arith in
           ap (λ (q : ℕ). sum m (diff f (only q))) last ∙ flip_last m f ∙ sym (xor_zero_r (sum m f))
 
-  flip-not : (r : ℕ) (f : Lane) → 1 ≤ r → r ≤ suc m → odd (suc m) (diff f (only r)) ≡ not (odd (suc m) f)
-  flip-not r f l h = flip_odd m r f l h ∙ ⊕-one (odd (suc m) f)
+  flip_not : (r : ℕ) (f : Lane) → 1 ≤ r → r ≤ suc m → odd (suc m) (diff f (only r)) ≡ not (odd (suc m) f)
+  flip_not r f l h = flip_odd m r f l h ∙ ⊕-one (odd (suc m) f)
 
   -- ---- what is decided may have been meant
 
@@ -95,10 +95,10 @@ module _ (m : ℕ) where
   sound_none true f o s eo es ok =
       let kept : lost? (decide m f) ≡ false = rw (eo, es) ok in
       rw (← eo, ← es) (record {
-        valid = mended-valid m f kept;
+        valid = mended_valid m f kept;
         near =
             rw (← count_same (suc m) (diff f (mended m f)) (changes (decide m f)) (λ j l. ⊕-cancel (f (suc j)) (changes (decide m f) (suc j))))
-            (mended-near m f kept);
+            (mended_near m f kept);
       })
   sound_none false f false zero eo es ok =
       record {
@@ -110,9 +110,9 @@ module _ (m : ℕ) where
 
   -- one row more is named, and is as it was found
   module _ (spare : Bool) (r : ℕ) (named : List ℕ) (f change : Lane) where
-    sound-kept : Sound spare named f change → Sound spare (r ∷ named) f change
+    sound_kept : Sound spare named f change → Sound spare (r ∷ named) f change
     unfolding among?
-    sound-kept h =
+    sound_kept h =
         record {
           valid = h.valid;
           near = omega (
@@ -128,9 +128,9 @@ module _ (m : ℕ) where
         fewer false n c = omega arith
 
     -- or is changed first
-    sound-flipped : Sound spare named (diff f (only r)) change → Sound spare (r ∷ named) f (λ p. eqb p r ⊕ change p)
+    sound_flipped : Sound spare named (diff f (only r)) change → Sound spare (r ∷ named) f (λ p. eqb p r ⊕ change p)
     unfolding among?
-    sound-flipped h =
+    sound_flipped h =
         record {
           valid = valid_same m _ _ (λ j l. ⊕-assoc (f (suc j)) (eqb (suc j) r) (change (suc j))) h.valid;
           near = omega (
@@ -154,8 +154,8 @@ module _ (m : ℕ) where
       by (lost_around? spare m named o s) refl ok
       (sound spare named f o s eo es within.2)
       (sound spare named (diff f (only r)) (not o) (bit_xor s (weight m r))
-      (flip-not r f within.0 within.1 ∙ ap not eo)
-      (flip-weight r f within.0 within.1 ∙ ap (λ (x : ℕ). bit_xor x (weight m r)) es)
+      (flip_not r f within.0 within.1 ∙ ap not eo)
+      (flip_weight r f within.0 within.1 ∙ ap (λ (x : ℕ). bit_xor x (weight m r)) es)
       within.2)
     where
       by : (t : Bool) → lost_around? spare m named o s ≡ t
@@ -165,15 +165,15 @@ module _ (m : ℕ) where
           → Sound spare named (diff f (only r)) (changes_around spare m named (not o) (bit_xor s (weight m r))))
           → Sound spare (r ∷ named) f
           (λ p. cond t (eqb p r ⊕ changes_around spare m named (not o) (bit_xor s (weight m r)) p) (changes_around spare m named o s p))
-      by true e ok as-found changed = sound-flipped spare r named f _ (changed ok)
-      by false e ok as-found changed = sound-kept spare r named f _ (as-found e)
+      by true e ok as-found changed = sound_flipped spare r named f _ (changed ok)
+      by false e ok as-found changed = sound_kept spare r named f _ (as-found e)
 
   -- ---- where there is a lane that may have been meant, none is lost
 
-  complete-none : (spare : Bool) (f g : Lane) (o : Bool) (s : ℕ) → odd (suc m) f ≡ o → sum m f ≡ s → Valid m g → apart m f g ≤ pick spare 1
+  complete_none : (spare : Bool) (f g : Lane) (o : Bool) (s : ℕ) → odd (suc m) f ≡ o → sum m f ≡ s → Valid m g → apart m f g ≤ pick spare 1
       → lost? (settled spare m o s) ≡ false
-  complete-none true f g o s eo es v h = rw (← eo, ← es) (near-kept m f g v h)
-  complete-none false f g o s eo es v h =
+  complete_none true f g o s eo es v h = rw (← eo, ← es) (near_kept m f g v h)
+  complete_none false f g o s eo es v h =
       let same = valid_same m g f (λ j l. sym (⊕-same (f (suc j)) (g (suc j)) (empty (suc m) (diff f g) (omega arith) j l))) v in
       rw (← eo, ← es, same.even, same.sum_zero) refl
 
@@ -182,13 +182,13 @@ module _ (m : ℕ) where
       → count (suc m) (outside named f g) ≤ pick spare 1
       → lost_around? spare m named o s ≡ false
   unfolding lost_around? among?
-  complete spare [] f g o s eo es within v h = complete-none spare f g o s eo es v h
+  complete spare [] f g o s eo es within v h = complete_none spare f g o s eo es v h
   complete spare (r ∷ named) f g o s eo es within v h =
       by (diff f g r) refl
       (complete spare named f g o s eo es within.2 v)
       (complete spare named (diff f (only r)) g (not o) (bit_xor s (weight m r))
-      (flip-not r f within.0 within.1 ∙ ap not eo)
-      (flip-weight r f within.0 within.1 ∙ ap (λ (x : ℕ). bit_xor x (weight m r)) es)
+      (flip_not r f within.0 within.1 ∙ ap not eo)
+      (flip_weight r f within.0 within.1 ∙ ap (λ (x : ℕ). bit_xor x (weight m r)) es)
       within.2 v)
     where
       -- outside the other rows no more is wrong, once the row is as it was meant
@@ -226,8 +226,8 @@ module _ (m : ℕ) where
   -- ---- in the words of the definition
 
   module _ (named : List ℕ) (f : Lane) (within : RowsTo (suc m) named) where
-    pub around-meant : lane_lost? m named f ≡ false → MeantLane m named f (lane_around m named f)
-    around-meant ok =
+    pub around_meant : lane_lost? m named f ≡ false → MeantLane m named f (lane_around m named f)
+    around_meant ok =
         let s = sound (spare? named) named f _ _ refl refl within ok in
         record {
           valid = s.valid;
@@ -237,8 +237,8 @@ module _ (m : ℕ) where
               s.near;
         }
 
-    pub meant-kept : (g : Lane) → MeantLane m named f g → lane_lost? m named f ≡ false
-    meant-kept g h = complete (spare? named) named f g _ _ refl refl within h.valid h.near
+    pub meant_kept : (g : Lane) → MeantLane m named f g → lane_lost? m named f ≡ false
+    meant_kept g h = complete (spare? named) named f g _ _ refl refl within h.valid h.near
 
   -- ---- never a second
 
@@ -271,6 +271,6 @@ module _ (m : ℕ) where
       room (a ∷ b ∷ named) l = omega arith
 
   -- so the lane that is left is the one that was meant
-  pub meant-left : (named : List ℕ) (f g : Lane) → RowsTo (suc m) named → length named ≤ 3 → MeantLane m named f g
+  pub meant_left : (named : List ℕ) (f g : Lane) → RowsTo (suc m) named → length named ≤ 3 → MeantLane m named f g
       → (j : ℕ) → j < suc m → g (suc j) ≡ lane_around m named f (suc j)
-  meant-left named f g within few h = never_second named f g _ few h (around-meant named f within (meant-kept named f within g h))
+  meant_left named f g within few h = never_second named f g _ few h (around_meant named f within (meant_kept named f within g h))

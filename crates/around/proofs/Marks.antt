@@ -45,9 +45,9 @@ over n h k l =
 
 module _ (m : ℕ) (small : m < 128) where
   -- below digit 7 a mark has the digits by which its row counts in the sum
-  pub mark-low : (r : ℕ) → r ≤ suc m → (k : ℕ) → k < 7 → bit k (mark (suc m) r) ≡ bit k (weight m r)
-  mark-low zero h k l = rw (le-leb 0 m (omega arith))
-  mark-low (suc r) h k l =
+  pub mark_low : (r : ℕ) → r ≤ suc m → (k : ℕ) → k < 7 → bit k (mark (suc m) r) ≡ bit k (weight m r)
+  mark_low zero h k l = rw (le-leb 0 m (omega arith))
+  mark_low (suc r) h k l =
       rw (eqb-suc-zero r)
       (by_cases (ℕ_discrete (suc r) (suc m))
       (λ e. rw (eq-eqb (suc r) (suc m) e, lt-leb (suc r) m (omega arith)) (low 0 (omega arith)))
@@ -57,9 +57,9 @@ module _ (m : ℕ) (small : m < 128) where
       low n b = over n b k (omega arith) ∙ ap (λ (t : Bool). bit k n || t) (ne_eqb k 7 (λ e. omega arith)) ∙ or_false (bit k n)
 
   -- and digit 7 where there is a row
-  pub mark-top : (r : ℕ) → r ≤ suc m → bit 7 (mark (suc m) r) ≡ not (eqb r 0)
-  mark-top zero h = bit_zero 7
-  mark-top (suc r) h =
+  pub mark_top : (r : ℕ) → r ≤ suc m → bit 7 (mark (suc m) r) ≡ not (eqb r 0)
+  mark_top zero h = bit_zero 7
+  mark_top (suc r) h =
       rw (eqb-suc-zero r)
       (by_cases (ℕ_discrete (suc r) (suc m))
       (λ e. rw (eq-eqb (suc r) (suc m) e) (top 0 (omega arith)))
@@ -68,8 +68,8 @@ module _ (m : ℕ) (small : m < 128) where
       top : (n : ℕ) → n < 128 → bit 7 (128 + n) ≡ true
       top n b = over n b 7 (omega arith) ∙ or_true (bit 7 n)
 
-  pub weight-small : (r : ℕ) → weight m r < 128
-  weight-small r = by (leb r m) refl
+  pub weight_small : (r : ℕ) → weight m r < 128
+  weight_small r = by (leb r m) refl
     where
       by : (t : Bool) → leb r m ≡ t → cond t r 0 < 128
       by true e = omega (arith, leb-true r m e)
@@ -92,9 +92,9 @@ module _ (m : ℕ) where
   pub none_above : (r : ℕ) → RowOrNone r → r ≤ suc m
   none_above r h = ⊎_elim (λ e. omega arith) (λ b. b.1) h
 
-  pub one-sum : (r : ℕ) (x : Bool) → RowOrNone r → sum m (one r x) ≡ pick x (weight m r)
-  one-sum r false h = sum_empty m
-  one-sum r true h =
+  pub one_sum : (r : ℕ) (x : Bool) → RowOrNone r → sum m (one r x) ≡ pick x (weight m r)
+  one_sum r false h = sum_empty m
+  one_sum r true h =
       ⊎_elim
       (λ e. rw e (sum_same m (only 0) (λ p. false) (λ j l. eqb-suc-zero j) ∙ sum_empty m ∙ sym (ap (λ (t : Bool). cond t 0 0) (le-leb 0 m (omega arith)))))
       (λ b.
@@ -112,8 +112,8 @@ module _ (m : ℕ) where
       (λ b. (only_within (suc m) r b.0 b.1).0 ∙ sym (ap (λ (t : Bool). pick (not t) 1) (ne_eqb r 0 (λ e. omega (arith, b)))))
       h
 
-  pub one-odd : (r : ℕ) (x : Bool) → RowOrNone r → odd (suc m) (one r x) ≡ x && not (eqb r 0)
-  one-odd r x h = ap (bit 0) (one_count r x h) ∙ single (x && not (eqb r 0))
+  pub one_odd : (r : ℕ) (x : Bool) → RowOrNone r → odd (suc m) (one r x) ≡ x && not (eqb r 0)
+  one_odd r x h = ap (bit 0) (one_count r x h) ∙ single (x && not (eqb r 0))
     where
       single : (b : Bool) → bit 0 (pick b 1) ≡ b
       single true = bit_one
@@ -121,8 +121,8 @@ module _ (m : ℕ) where
 
   -- ---- digits
 
-  pub digits-diff : (f g : Lane) (k : ℕ) → digits (diff f g) k ≡ digits f k ⊕ digits g k
-  digits-diff f g k = by (eqb k 7)
+  pub digits_diff : (f g : Lane) (k : ℕ) → digits (diff f g) k ≡ digits f k ⊕ digits g k
+  digits_diff f g k = by (eqb k 7)
     where
       by : (t : Bool) → cond t (odd (suc m) (diff f g)) (bit k (sum m (diff f g)))
           ≡ cond t (odd (suc m) f) (bit k (sum m f)) ⊕ cond t (odd (suc m) g) (bit k (sum m g))
@@ -138,13 +138,13 @@ module _ (m : ℕ) (small : m < 128) where
   pub one_digit : (r : ℕ) (x : Bool) → RowOrNone m r → (k : ℕ) → k < 8 → digits m (one m r x) k ≡ x && bit k (mark (suc m) r)
   one_digit r x h k l =
       ⊎_elim
-      (λ e. rw (eq-eqb k 7 e) (one-odd m r x h ∙ ap (λ (t : Bool). x && t) (sym (mark-top m small r (none_above m r h)) ∙ ap (λ (j : ℕ). bit j (mark (suc m) r)) (sym e))))
+      (λ e. rw (eq-eqb k 7 e) (one_odd m r x h ∙ ap (λ (t : Bool). x && t) (sym (mark_top m small r (none_above m r h)) ∙ ap (λ (j : ℕ). bit j (mark (suc m) r)) (sym e))))
       (λ b.
       rw (ne_eqb k 7 (λ e. omega arith))
-      (ap (bit k) (one-sum m r x h) ∙ pick_bit k x (weight m r) ∙ ap (λ (t : Bool). x && t) (sym (mark-low m small r (none_above m r h) k b))))
+      (ap (bit k) (one_sum m r x h) ∙ pick_bit k x (weight m r) ∙ ap (λ (t : Bool). x && t) (sym (mark_low m small r (none_above m r h) k b))))
       (eq-or-lt_of_le (le_of_suc-le-suc l))
 
   -- and a lane's, where the row is changed, are changed by it
-  pub change-digit : (f : Lane) (r : ℕ) (x : Bool) → RowOrNone m r → (k : ℕ) → k < 8
+  pub change_digit : (f : Lane) (r : ℕ) (x : Bool) → RowOrNone m r → (k : ℕ) → k < 8
       → digits m (diff f (one m r x)) k ≡ digits m f k ⊕ (x && bit k (mark (suc m) r))
-  change-digit f r x h k l = digits-diff m f (one m r x) k ∙ ap (λ (t : Bool). digits m f k ⊕ t) (one_digit r x h k l)
+  change_digit f r x h k l = digits_diff m f (one m r x) k ∙ ap (λ (t : Bool). digits m f k ⊕ t) (one_digit r x h k l)

@@ -22,29 +22,29 @@ module _ (shape : Shape) (block : List ℕ) where
   unfolding lanes_lost_around lanes_lost lost_around?
   none_lost = refl
 
-  none-lanes : around_lanes shape [] block ≡ mended_lanes shape block
+  none_lanes : around_lanes shape [] block ≡ mended_lanes shape block
   unfolding around_lanes mended_lanes changes_around
-  none-lanes = refl
+  none_lanes = refl
 
-  pub none-block : around_block shape [] block ≡ mended_block shape block
+  pub none_block : around_block shape [] block ≡ mended_block shape block
   unfolding around_block mended_block
-  none-block = ap₂ (λ (n : ℕ) (mended : List ℕ). if_zero n mended block) none_lost none-lanes
+  none_block = ap₂ (λ (n : ℕ) (mended : List ℕ). if_zero n mended block) none_lost none_lanes
 
   none_inside : (new : List ℕ) → bits_inside shape [] block new ≡ 0
   unfolding bits_inside among?
   none_inside new = total_same 32 _ (λ i. 0) (λ i h. count_empty (rows shape)) ∙ total_zero 32
 
-  none-outside : (new : List ℕ) → bits_outside shape [] block new ≡ bits_changed shape block new
+  none_outside : (new : List ℕ) → bits_outside shape [] block new ≡ bits_changed shape block new
   unfolding bits_outside bits_changed among?
-  none-outside new = refl
+  none_outside new = refl
 
-  by-verdict : (lost : ℕ) (kinds : Kind → ℕ) (changed : ℕ) → unnamed (Found (verdict lost kinds changed)) ≡ around_by [] lost kinds 0 changed
-  by-verdict zero kinds zero = refl
-  by-verdict zero kinds (suc changed) = refl
-  by-verdict (suc lost) kinds changed = refl
+  by_verdict : (lost : ℕ) (kinds : Kind → ℕ) (changed : ℕ) → unnamed (Found (verdict lost kinds changed)) ≡ around_by [] lost kinds 0 changed
+  by_verdict zero kinds zero = refl
+  by_verdict zero kinds (suc changed) = refl
+  by_verdict (suc lost) kinds changed = refl
 
-  pub none-says : unnamed (Found (verdict_of shape block)) ≡ around_of shape [] block
+  pub none_says : unnamed (Found (verdict_of shape block)) ≡ around_of shape [] block
   unfolding verdict_of around_of
-  none-says =
-      rw (none_lost, none-block, none_inside (mended_block shape block), none-outside (mended_block shape block))
-      (by-verdict (lanes_lost shape block) (lanes_lost_as shape block) (bits_changed shape block (mended_block shape block)))
+  none_says =
+      rw (none_lost, none_block, none_inside (mended_block shape block), none_outside (mended_block shape block))
+      (by_verdict (lanes_lost shape block) (lanes_lost_as shape block) (bits_changed shape block (mended_block shape block)))

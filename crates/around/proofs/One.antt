@@ -31,19 +31,19 @@ use Rattle.shape.proofs.Sizes.{before_small}
 use Rattle.sums.specs.Words.{lane, number, word}
 use Rattle.sums.specs.Sums.{sums_of}
 use Rattle.sums.specs.Inner.{any_of}
-use Rattle.sums.proofs.Doubt.{bit-any, word_lt}
+use Rattle.sums.proofs.Doubt.{bit_any, word_lt}
 use Rattle.sums.proofs.WordBits.{bit_number, number_bits, number_lt}
 use Rattle.block.specs.Block.{SameRows, lanes_lost, mended_lanes, mended_block, bits_changed}
-use Rattle.block.proofs.Blocks.{none_kept, mended-kept, changed-odd}
+use Rattle.block.proofs.Blocks.{none_kept, mended_kept, changed_odd}
 use Rattle.block.proofs.Lanes.{ones_total}
-use Rattle.block.proofs.Told.{clean-left}
+use Rattle.block.proofs.Told.{clean_left}
 use Rattle.around.specs.Named.{among?}
 use Rattle.around.specs.Lane.{MeantLane, weight, lane_lost?}
 use Rattle.around.specs.Block.{lanes_lost_around, around_block, bits_inside, bits_outside}
 use Rattle.around.specs.Inner.{mark, changed_by, changed_at}
 use Rattle.around.proofs.Lanes.{RowsTo, ⊕-assoc}
-use Rattle.around.proofs.Blocks.{row_changed, meant_same, change-none, change-row, change-inside, change-outside}
-use Rattle.around.proofs.Marks.{mark-low, weight-small, digits, digits_same, change-digit}
+use Rattle.around.proofs.Blocks.{row_changed, meant_same, change_none, change_row, change_inside, change_outside}
+use Rattle.around.proofs.Marks.{mark_low, weight_small, digits, digits_same, change_digit}
 use Rattle.around.proofs.More.{swap, digit_of}
 use Rattle.around.proofs.OneRow as row
 
@@ -98,35 +98,35 @@ module _ (shape : Shape) (block : List ℕ) (long : rows shape ≤ length block)
   abbrev first : List ℕ
   first = taken_out mk sums
 
-  abbrev leftIn : ℕ
-  leftIn = left_lanes mk sums
+  abbrev left_in : ℕ
+  left_in = left_lanes mk sums
 
   abbrev second : List ℕ
   second = turned_sums mk sums
 
-  abbrev wrongIn : ℕ
-  wrongIn = wrong_lanes mk sums
+  abbrev wrong_in : ℕ
+  wrong_in = wrong_lanes mk sums
 
   -- the block with the row changed there
   abbrev turned : List ℕ
-  turned = changed_at block (r - 1) wrongIn
+  turned = changed_at block (r - 1) wrong_in
 
   -- ---- words fit
 
-  sums-fit : (k : ℕ) → k < 8 → get_or sums k 0 < 2 ^ 32
-  sums-fit k h = rw are (word_lt shape block k h)
+  sums_fit : (k : ℕ) → k < 8 → get_or sums k 0 < 2 ^ 32
+  sums_fit k h = rw are (word_lt shape block k h)
 
-  odds-fit : odds < 2 ^ 32
-  odds-fit = sums-fit 7 (omega arith)
+  odds_fit : odds < 2 ^ 32
+  odds_fit = sums_fit 7 (omega arith)
 
-  first-fit : (k : ℕ) → k < 8 → get_or first k 0 < 2 ^ 32
-  first-fit = changed_fits mk odds sums odds-fit sums-fit
+  first_fit : (k : ℕ) → k < 8 → get_or first k 0 < 2 ^ 32
+  first_fit = changed_fits mk odds sums odds_fit sums_fit
 
-  pub left-fit : leftIn < 2 ^ 32
-  left-fit = any_fits 7 first (omega arith) first-fit
+  pub left_fit : left_in < 2 ^ 32
+  left_fit = any_fits 7 first (omega arith) first_fit
 
-  pub wrong-fit : wrongIn < 2 ^ 32
-  wrong-fit = xor_lt 32 odds leftIn odds-fit left-fit
+  pub wrong_fit : wrong_in < 2 ^ 32
+  wrong_fit = xor_lt 32 odds left_in odds_fit left_fit
 
   -- ---- lane by lane
 
@@ -134,121 +134,121 @@ module _ (shape : Shape) (block : List ℕ) (long : rows shape ≤ length block)
     abbrev f : Lane
     f = lane i block
 
-    sums-digit : (k : ℕ) → k < 8 → bit i (get_or sums k 0) ≡ digits m f k
-    sums-digit k h = ap (λ (l : List ℕ). bit i (get_or l k 0)) are ∙ digit_of shape block i hi k h
+    sums_digit : (k : ℕ) → k < 8 → bit i (get_or sums k 0) ≡ digits m f k
+    sums_digit k h = ap (λ (l : List ℕ). bit i (get_or l k 0)) are ∙ digit_of shape block i hi k h
 
-    odds-bit : bit i odds ≡ odd (suc m) f
-    odds-bit = sums-digit 7 (omega arith)
+    odds_bit : bit i odds ≡ odd (suc m) f
+    odds_bit = sums_digit 7 (omega arith)
 
-    first-digit : (k : ℕ) → k < 7 → bit i (get_or first k 0) ≡ bit k (bit_xor (sum m f) (pick (odd (suc m) f) (weight m r)))
-    first-digit k h =
+    first_digit : (k : ℕ) → k < 7 → bit i (get_or first k 0) ≡ bit k (bit_xor (sum m f) (pick (odd (suc m) f) (weight m r)))
+    first_digit k h =
         changed_bit mk odds sums i k (omega arith)
-        ∙ ap₂ (λ (s t : Bool). s ⊕ (bit k mk && t)) (sums-digit k (omega arith) ∙ ap (λ (t : Bool). cond t (odd (suc m) f) (bit k (sum m f))) (ne_eqb k 7 (λ e. omega arith)))
-        odds-bit
-        ∙ ap (λ (t : Bool). bit k (sum m f) ⊕ t) (swap (bit k mk) (odd (suc m) f) ∙ ap (λ (t : Bool). odd (suc m) f && t) (mark-low m (before_small shape) r high k h) ∙ sym (pick_bit k (odd (suc m) f) (weight m r)))
+        ∙ ap₂ (λ (s t : Bool). s ⊕ (bit k mk && t)) (sums_digit k (omega arith) ∙ ap (λ (t : Bool). cond t (odd (suc m) f) (bit k (sum m f))) (ne_eqb k 7 (λ e. omega arith)))
+        odds_bit
+        ∙ ap (λ (t : Bool). bit k (sum m f) ⊕ t) (swap (bit k mk) (odd (suc m) f) ∙ ap (λ (t : Bool). odd (suc m) f && t) (mark_low m (before_small shape) r high k h) ∙ sym (pick_bit k (odd (suc m) f) (weight m r)))
         ∙ sym (bit_of_xor k (sum m f) (pick (odd (suc m) f) (weight m r)))
 
-    left-bit : bit i leftIn ≡ row.left? (odd (suc m) f) (sum m f) (weight m r)
-    left-bit =
-        bit-any i first 7
+    left_bit : bit i left_in ≡ row.left? (odd (suc m) f) (sum m f) (weight m r)
+    left_bit =
+        bit_any i first 7
         ∙ ap (λ (n : ℕ). not (eqb n 0))
         (sym (number_bits 7 (bit_xor (sum m f) (pick (odd (suc m) f) (weight m r))) (λ k. bit i (get_or first k 0))
         (xor_lt 7 (sum m f) (pick (odd (suc m) f) (weight m r)) (sum_lt 7 m f (before_small shape)) (some (odd (suc m) f)))
-        (λ k h. sym (first-digit k h))))
+        (λ k h. sym (first_digit k h))))
       where
         some : (t : Bool) → pick t (weight m r) < 2 ^ 7
-        some true = weight-small m (before_small shape) r
+        some true = weight_small m (before_small shape) r
         some false = pow_pos 7
 
     -- is the row wrong in this lane
     abbrev wrong : Bool
     wrong = row.wrong m r low high f
 
-    wrong-bit : bit i wrongIn ≡ wrong
-    wrong-bit = bit_of_xor i odds leftIn ∙ ap₂ ◌⊕◌ odds-bit left-bit
+    wrong_bit : bit i wrong_in ≡ wrong
+    wrong_bit = bit_of_xor i odds left_in ∙ ap₂ ◌⊕◌ odds_bit left_bit
 
     -- the lane of the block that is turned is the lane turned
-    lane-turned : (j : ℕ) → j < rows shape → lane i turned (suc j) ≡ row.turned m r low high f (suc j)
-    lane-turned j h =
-        ap (bit i) (row_changed block r wrongIn low j (omega arith))
-        ∙ bit_of_xor i (get_or block j 0) (pick (eqb (suc j) r) wrongIn)
+    lane_turned : (j : ℕ) → j < rows shape → lane i turned (suc j) ≡ row.turned m r low high f (suc j)
+    lane_turned j h =
+        ap (bit i) (row_changed block r wrong_in low j (omega arith))
+        ∙ bit_of_xor i (get_or block j 0) (pick (eqb (suc j) r) wrong_in)
         ∙ ap (λ (t : Bool). f (suc j) ⊕ t)
-        (pick_bit i (eqb (suc j) r) wrongIn ∙ swap (eqb (suc j) r) (bit i wrongIn) ∙ ap (λ (t : Bool). t && eqb (suc j) r) wrong-bit)
+        (pick_bit i (eqb (suc j) r) wrong_in ∙ swap (eqb (suc j) r) (bit i wrong_in) ∙ ap (λ (t : Bool). t && eqb (suc j) r) wrong_bit)
 
-    second-digit : (k : ℕ) → k < 8 → bit i (get_or second k 0) ≡ digits m (lane i turned) k
-    second-digit k h =
-        changed_bit mk leftIn first i k h
-        ∙ ap (λ (t : Bool). t ⊕ (bit k mk && bit i leftIn)) (changed_bit mk odds sums i k h)
-        ∙ ⊕-assoc (bit i (get_or sums k 0)) (bit k mk && bit i odds) (bit k mk && bit i leftIn)
-        ∙ ap₂ ◌⊕◌ (sums-digit k h) (both (bit k mk) (bit i odds) (bit i leftIn) ∙ ap (λ (t : Bool). t && bit k mk) (sym (bit_of_xor i odds leftIn) ∙ wrong-bit))
-        ∙ sym (change-digit m (before_small shape) f r wrong (inr (low, high)) k h)
-        ∙ sym (digits_same m (lane i turned) (row.turned m r low high f) lane-turned k)
+    second_digit : (k : ℕ) → k < 8 → bit i (get_or second k 0) ≡ digits m (lane i turned) k
+    second_digit k h =
+        changed_bit mk left_in first i k h
+        ∙ ap (λ (t : Bool). t ⊕ (bit k mk && bit i left_in)) (changed_bit mk odds sums i k h)
+        ∙ ⊕-assoc (bit i (get_or sums k 0)) (bit k mk && bit i odds) (bit k mk && bit i left_in)
+        ∙ ap₂ ◌⊕◌ (sums_digit k h) (both (bit k mk) (bit i odds) (bit i left_in) ∙ ap (λ (t : Bool). t && bit k mk) (sym (bit_of_xor i odds left_in) ∙ wrong_bit))
+        ∙ sym (change_digit m (before_small shape) f r wrong (inr (low, high)) k h)
+        ∙ sym (digits_same m (lane i turned) (row.turned m r low high f) lane_turned k)
       where
         both : (b x y : Bool) → (b && x) ⊕ (b && y) ≡ (x ⊕ y) && b
         both true x y = sym (and-true (x ⊕ y))
         both false x y = sym (and-false (x ⊕ y))
 
     -- what is decided of it
-    decided-same : decide m (lane i turned) ≡ decide m (row.turned m r low high f)
-    decided-same =
-        ap₂ (decision m) (ap (bit 0) (count_same (suc m) (lane i turned) (row.turned m r low high f) lane-turned))
-        (sum_same m (lane i turned) (row.turned m r low high f) (λ j h. lane-turned j (omega arith)))
+    decided_same : decide m (lane i turned) ≡ decide m (row.turned m r low high f)
+    decided_same =
+        ap₂ (decision m) (ap (bit 0) (count_same (suc m) (lane i turned) (row.turned m r low high f) lane_turned))
+        (sum_same m (lane i turned) (row.turned m r low high f) (λ j h. lane_turned j (omega arith)))
 
-    lost-lane : lost? (decide m (lane i turned)) ≡ lane_lost? m (r ∷ []) f
-    lost-lane = ap lost? decided-same ∙ row.turned-lost m r low high f
+    lost_lane : lost? (decide m (lane i turned)) ≡ lane_lost? m (r ∷ []) f
+    lost_lane = ap lost? decided_same ∙ row.turned-lost m r low high f
 
-    odd_lane : odd (suc m) (lane i turned) ≡ bit i leftIn
+    odd_lane : odd (suc m) (lane i turned) ≡ bit i left_in
     odd_lane =
-        ap (bit 0) (count_same (suc m) (lane i turned) (row.turned m r low high f) lane-turned) ∙ row.turned-odd m r low high f ∙ sym left-bit
+        ap (bit 0) (count_same (suc m) (lane i turned) (row.turned m r low high f) lane_turned) ∙ row.turned-odd m r low high f ∙ sym left_bit
 
   -- ---- the sums are those of the block with the row changed
 
-  pub second-are : second ≡ sums_of shape turned
+  pub second_are : second ≡ sums_of shape turned
   unfolding changed_by
-  second-are =
-      ext_get_or 0 second (sums_of shape turned) (length_list_of 8 _ ∙ sym (sums-length shape turned))
+  second_are =
+      ext_get_or 0 second (sums_of shape turned) (length_list_of 8 _ ∙ sym (sums_length shape turned))
       (λ k h.
-      let l : k < 8 = omega (arith, length_list_of 8 (λ k. bit_xor (get_or first k 0) (pick (bit k mk) leftIn))) in
-      bit_ext_below 32 (get_or second k 0) (get_or (sums_of shape turned) k 0) (changed_fits mk leftIn first left-fit first-fit k l) (word_lt shape turned k l)
-      (λ i hi. second-digit i hi k l ∙ sym (digit_of shape turned i hi k l)))
+      let l : k < 8 = omega (arith, length_list_of 8 (λ k. bit_xor (get_or first k 0) (pick (bit k mk) left_in))) in
+      bit_ext_below 32 (get_or second k 0) (get_or (sums_of shape turned) k 0) (changed_fits mk left_in first left_fit first_fit k l) (word_lt shape turned k l)
+      (λ i hi. second_digit i hi k l ∙ sym (digit_of shape turned i hi k l)))
     where
-      sums-length : (shape : Shape) (block : List ℕ) → length (sums_of shape block) ≡ 8
-      sums-length shape block = unfold sums_of in refl
+      sums_length : (shape : Shape) (block : List ℕ) → length (sums_of shape block) ≡ 8
+      sums_length shape block = unfold sums_of in refl
 
-  turned-long : rows shape ≤ length turned
-  turned-long = rw (length-set block (r - 1) (bit_xor (get_or block (r - 1) 0) wrongIn)) long
+  turned_long : rows shape ≤ length turned
+  turned_long = rw (length-set block (r - 1) (bit_xor (get_or block (r - 1) 0) wrong_in)) long
 
-  pub lost-turned : lanes_lost shape turned ≡ lanes_lost_around shape (r ∷ []) block
+  pub lost_turned : lanes_lost shape turned ≡ lanes_lost_around shape (r ∷ []) block
   unfolding lanes_lost lanes_lost_around
-  lost-turned = total_same 32 _ _ (λ i hi. ap (λ (t : Bool). pick t 1) (lost-lane i hi))
+  lost_turned = total_same 32 _ _ (λ i hi. ap (λ (t : Bool). pick t 1) (lost_lane i hi))
 
   -- ---- where no lane is lost
 
   module _ (none : lanes_lost shape turned ≡ 0) where
     -- row p is changed by the word of p
     abbrev change : ℕ → ℕ
-    change p = bit_xor (pick (eqb p r) wrongIn) (word (λ i. changes (decide m (lane i turned)) p))
+    change p = bit_xor (pick (eqb p r) wrong_in) (word (λ i. changes (decide m (lane i turned)) p))
 
-    change-small : (p : ℕ) → change p < 2 ^ 32
-    change-small p = xor_lt 32 (pick (eqb p r) wrongIn) _ (some (eqb p r)) (number_lt 32 _)
+    change_small : (p : ℕ) → change p < 2 ^ 32
+    change_small p = xor_lt 32 (pick (eqb p r) wrong_in) _ (some (eqb p r)) (number_lt 32 _)
       where
-        some : (t : Bool) → pick t wrongIn < 2 ^ 32
-        some true = wrong-fit
+        some : (t : Bool) → pick t wrong_in < 2 ^ 32
+        some true = wrong_fit
         some false = pow_pos 32
 
-    change-bit : (i : ℕ) (hi : i < 32) (p : ℕ) → bit i (change p) ≡ row.change m r low high (lane i block) p
-    change-bit i hi p =
-        bit_of_xor i (pick (eqb p r) wrongIn) (word (λ i. changes (decide m (lane i turned)) p))
-        ∙ ap₂ ◌⊕◌ (pick_bit i (eqb p r) wrongIn ∙ swap (eqb p r) (bit i wrongIn) ∙ ap (λ (t : Bool). t && eqb p r) (wrong-bit i hi))
-        (bit_number 32 i (λ i. changes (decide m (lane i turned)) p) hi ∙ ap (λ (d : Decision). changes d p) (decided-same i hi))
+    change_bit : (i : ℕ) (hi : i < 32) (p : ℕ) → bit i (change p) ≡ row.change m r low high (lane i block) p
+    change_bit i hi p =
+        bit_of_xor i (pick (eqb p r) wrong_in) (word (λ i. changes (decide m (lane i turned)) p))
+        ∙ ap₂ ◌⊕◌ (pick_bit i (eqb p r) wrong_in ∙ swap (eqb p r) (bit i wrong_in) ∙ ap (λ (t : Bool). t && eqb p r) (wrong_bit i hi))
+        (bit_number 32 i (λ i. changes (decide m (lane i turned)) p) hi ∙ ap (λ (d : Decision). changes d p) (decided_same i hi))
 
     kept : (i : ℕ) → i < 32 → lost? (decide m (row.turned m r low high (lane i block))) ≡ false
-    kept i hi = ap lost? (sym (decided-same i hi)) ∙ none_kept shape turned none i hi
+    kept i hi = ap lost? (sym (decided_same i hi)) ∙ none_kept shape turned none i hi
 
-    change-meant : (i : ℕ) → i < 32 → MeantLane m (r ∷ []) (lane i block) (diff (lane i block) (λ p. bit i (change p)))
-    change-meant i hi =
+    change_meant : (i : ℕ) → i < 32 → MeantLane m (r ∷ []) (lane i block) (diff (lane i block) (λ p. bit i (change p)))
+    change_meant i hi =
         meant_same m (r ∷ []) (lane i block) (diff (lane i block) (row.change m r low high (lane i block))) (diff (lane i block) (λ p. bit i (change p)))
-        (λ j h. ap (λ (t : Bool). lane i block (suc j) ⊕ t) (sym (change-bit i hi (suc j))))
+        (λ j h. ap (λ (t : Bool). lane i block (suc j) ⊕ t) (sym (change_bit i hi (suc j))))
         (row.change-meant m r low high (lane i block) (kept i hi))
 
     few : length (r ∷ []) ≤ 3
@@ -261,38 +261,38 @@ module _ (shape : Shape) (block : List ℕ) (long : rows shape ≤ length block)
     pub one_rows : SameRows shape (mended_block shape turned) (around_block shape (r ∷ []) block)
     unfolding mended_lanes
     one_rows j h =
-        ap (λ (b : List ℕ). get_or b j 0) (mended-kept shape turned none)
-        ∙ get_or_list_of (length turned) _ j (omega (arith, turned-long))
-        ∙ ap (λ (w : ℕ). bit_xor w (word (λ i. changes (decide m (lane i turned)) (suc j)))) (row_changed block r wrongIn low j (omega arith))
-        ∙ xor_assoc (get_or block j 0) (pick (eqb (suc j) r) wrongIn) (word (λ i. changes (decide m (lane i turned)) (suc j)))
-        ∙ change-row shape (r ∷ []) block long within few change change-small change-meant j h
+        ap (λ (b : List ℕ). get_or b j 0) (mended_kept shape turned none)
+        ∙ get_or_list_of (length turned) _ j (omega (arith, turned_long))
+        ∙ ap (λ (w : ℕ). bit_xor w (word (λ i. changes (decide m (lane i turned)) (suc j)))) (row_changed block r wrong_in low j (omega arith))
+        ∙ xor_assoc (get_or block j 0) (pick (eqb (suc j) r) wrong_in) (word (λ i. changes (decide m (lane i turned)) (suc j)))
+        ∙ change_row shape (r ∷ []) block long within few change change_small change_meant j h
 
-    pub one_inside : bits_inside shape (r ∷ []) block (around_block shape (r ∷ []) block) ≡ ones wrongIn
+    pub one_inside : bits_inside shape (r ∷ []) block (around_block shape (r ∷ []) block) ≡ ones wrong_in
     one_inside =
-        change-inside shape (r ∷ []) block long within few change change-small change-meant
+        change_inside shape (r ∷ []) block long within few change change_small change_meant
         ∙ total_same 32 _ _
         (λ i hi.
         count_same (rows shape) (λ p. among? (r ∷ []) p && bit i (change p)) (λ p. among? (r ∷ []) p && row.change m r low high (lane i block) p)
-        (λ j h. ap (λ (t : Bool). among? (r ∷ []) (suc j) && t) (change-bit i hi (suc j)))
+        (λ j h. ap (λ (t : Bool). among? (r ∷ []) (suc j) && t) (change_bit i hi (suc j)))
         ∙ row.count-inside m r low high (lane i block) (kept i hi)
-        ∙ ap (λ (t : Bool). pick t 1) (sym (wrong-bit i hi)))
-        ∙ sym (ones_total 32 wrongIn wrong-fit)
+        ∙ ap (λ (t : Bool). pick t 1) (sym (wrong_bit i hi)))
+        ∙ sym (ones_total 32 wrong_in wrong_fit)
 
-    pub one_outside : bits_outside shape (r ∷ []) block (around_block shape (r ∷ []) block) ≡ ones leftIn
+    pub one_outside : bits_outside shape (r ∷ []) block (around_block shape (r ∷ []) block) ≡ ones left_in
     one_outside =
-        change-outside shape (r ∷ []) block long within few change change-small change-meant
+        change_outside shape (r ∷ []) block long within few change change_small change_meant
         ∙ total_same 32 _ _
         (λ i hi.
         count_same (rows shape) (λ p. not (among? (r ∷ []) p) && bit i (change p)) (λ p. not (among? (r ∷ []) p) && row.change m r low high (lane i block) p)
-        (λ j h. ap (λ (t : Bool). not (among? (r ∷ []) (suc j)) && t) (change-bit i hi (suc j)))
+        (λ j h. ap (λ (t : Bool). not (among? (r ∷ []) (suc j)) && t) (change_bit i hi (suc j)))
         ∙ row.count-outside m r low high (lane i block) (kept i hi)
-        ∙ ap (λ (t : Bool). pick t 1) (row.turned-odd m r low high (lane i block) ∙ sym (left-bit i hi)))
-        ∙ sym (ones_total 32 leftIn left-fit)
+        ∙ ap (λ (t : Bool). pick t 1) (row.turned-odd m r low high (lane i block) ∙ sym (left_bit i hi)))
+        ∙ sym (ones_total 32 left_in left_fit)
 
     -- where no sum is left, the row alone is changed
-    pub one-alone : leftIn ≡ 0 → mended_block shape turned ≡ turned
-    one-alone no-left =
-        clean-left shape turned turned-long none
-        (ap (bits_changed shape turned) (mended-kept shape turned none) ∙ changed-odd shape turned turned-long (none_kept shape turned none)
+    pub one_alone : left_in ≡ 0 → mended_block shape turned ≡ turned
+    one_alone no-left =
+        clean_left shape turned turned_long none
+        (ap (bits_changed shape turned) (mended_kept shape turned none) ∙ changed_odd shape turned turned_long (none_kept shape turned none)
         ∙ total_same 32 _ (λ i. 0) (λ i hi. ap (λ (t : Bool). pick t 1) (odd_lane i hi ∙ ap (bit i) no-left ∙ bit_zero i))
         ∙ total_zero 32)

@@ -15,11 +15,11 @@ use Rattle.lane.specs.Lane.{Lane, sum, count, odd, Valid, diff, apart}
 use Rattle.lane.specs.Decision.{Decision, unchanged, flipped, lost, even, beyond, decision, decide, lost?, changes, mended}
 use Rattle.lane.proofs.Bits.{xor_cancel, xor_assoc, pick_one, ⊕-zero}
 use Rattle.lane.proofs.Linear.{sum_diff, odd_diff, count_same, valid_same}
-use Rattle.lane.proofs.Mended.{⊕-cancel, mended-valid, mended-count}
+use Rattle.lane.proofs.Mended.{⊕-cancel, mended_valid, mended_count}
 use Rattle.around.specs.Named.{among?}
 use Rattle.around.specs.Lane.{outside, MeantLane, weight, settled, lost_around?, lane_lost?}
 use Rattle.around.proofs.Lanes.{⊕-assoc}
-use Rattle.around.proofs.Marks.{one, one-sum, one-odd, one_count}
+use Rattle.around.proofs.Marks.{one, one_sum, one_odd, one_count}
 
 -- is a sum left once the row is taken out where the lane is odd
 abbrev pub left? : (o : Bool) (s w : ℕ) → Bool
@@ -35,14 +35,14 @@ module _ (m r : ℕ) (low : 1 ≤ r) (high : r ≤ suc m) where
   w = weight m r
 
   -- lost once the row is changed so, exactly if lost around it
-  lost-same : (o : Bool) (s : ℕ)
+  lost_same : (o : Bool) (s : ℕ)
       → lost? (decision m (left? o s w) (bit_xor s (pick (wrong? o s w) w))) ≡ lost? (decision m o s) && lost? (decision m (not o) (bit_xor s w))
   unfolding decision
-  lost-same o s = by o (eqb (bit_xor s (pick o w)) 0) refl
+  lost_same o s = by o (eqb (bit_xor s (pick o w)) 0) refl
     where
-      even-lost : (s : ℕ) → (s ≡ 0 → ⊥) → lost? (decision m false s) ≡ true
-      even-lost zero ne = absurd (ne refl)
-      even-lost (suc s) ne = refl
+      even_lost : (s : ℕ) → (s ≡ 0 → ⊥) → lost? (decision m false s) ≡ true
+      even_lost zero ne = absurd (ne refl)
+      even_lost (suc s) ne = refl
 
       by : (o t : Bool) → eqb (bit_xor s (pick o w)) 0 ≡ t
           → lost? (decision m (not t) (bit_xor s (pick (o ⊕ not t) w))) ≡ lost? (decision m o s) && lost? (decision m (not o) (bit_xor s w))
@@ -51,11 +51,11 @@ module _ (m r : ℕ) (low : 1 ≤ r) (high : r ≤ suc m) where
           rw (xor_zero_r s) (rw z)
       by false false e =
           let z : s ≡ 0 → ⊥ = λ q. eqb-false _ _ e (xor_zero_r s ∙ q) in
-          rw (even-lost s z)
+          rw (even_lost s z)
       by true true e = let z : bit_xor s w ≡ 0 = eqb-true _ _ e in rw z (sym (and-false (lost? (decision m true s))))
       by true false e =
           let z : bit_xor s w ≡ 0 → ⊥ = eqb-false _ _ e in
-          rw (xor_zero_r s, even-lost (bit_xor s w) z) (sym (and-true (lost? (decision m true s))))
+          rw (xor_zero_r s, even_lost (bit_xor s w) z) (sym (and-true (lost? (decision m true s))))
 
   -- what is then changed is not the row
   row_kept : (o : Bool) (s : ℕ) → lost? (decision m (left? o s w) (bit_xor s (pick (wrong? o s w) w))) ≡ false
@@ -107,19 +107,19 @@ module _ (m r : ℕ) (low : 1 ≤ r) (high : r ≤ suc m) where
     there : (x : Bool) → x && not (eqb r 0) ≡ x
     there x = rw (ne_eqb r 0 (λ e. omega arith)) (and-true x)
 
-    turned-sum : sum m turned ≡ bit_xor s (pick wrong w)
-    turned-sum = sum_diff m f (one m r wrong) ∙ ap (bit_xor s) (one-sum m r wrong (inr (low, high)))
+    turned_sum : sum m turned ≡ bit_xor s (pick wrong w)
+    turned_sum = sum_diff m f (one m r wrong) ∙ ap (bit_xor s) (one_sum m r wrong (inr (low, high)))
 
-    pub turned-odd : odd (suc m) turned ≡ left? o s w
-    turned-odd =
-        odd_diff (suc m) f (one m r wrong) ∙ ap (λ (t : Bool). o ⊕ t) (one-odd m r wrong (inr (low, high)) ∙ there wrong) ∙ ⊕-cancel o (left? o s w)
+    pub turned_odd : odd (suc m) turned ≡ left? o s w
+    turned_odd =
+        odd_diff (suc m) f (one m r wrong) ∙ ap (λ (t : Bool). o ⊕ t) (one_odd m r wrong (inr (low, high)) ∙ there wrong) ∙ ⊕-cancel o (left? o s w)
 
-    turned-decision : decide m turned ≡ decision m (left? o s w) (bit_xor s (pick wrong w))
-    turned-decision = ap₂ (decision m) turned-odd turned-sum
+    turned_decision : decide m turned ≡ decision m (left? o s w) (bit_xor s (pick wrong w))
+    turned_decision = ap₂ (decision m) turned_odd turned_sum
 
-    pub turned-lost : lost? (decide m turned) ≡ lane_lost? m (r ∷ []) f
+    pub turned_lost : lost? (decide m turned) ≡ lane_lost? m (r ∷ []) f
     unfolding lost_around?
-    turned-lost = ap lost? turned-decision ∙ lost-same o s
+    turned_lost = ap lost? turned_decision ∙ lost_same o s
 
     -- the row, and what is then decided
     abbrev pub change : Lane
@@ -127,7 +127,7 @@ module _ (m r : ℕ) (low : 1 ≤ r) (high : r ≤ suc m) where
 
     module _ (kept : lost? (decide m turned) ≡ false) where
       row_stays : changes (decide m turned) r ≡ false
-      row_stays = ap (λ (d : Decision). changes d r) turned-decision ∙ row_kept o s (ap lost? (sym turned-decision) ∙ kept)
+      row_stays = ap (λ (d : Decision). changes d r) turned_decision ∙ row_kept o s (ap lost? (sym turned_decision) ∙ kept)
 
       in_row : (p : ℕ) → among? (r ∷ []) p && change p ≡ one m r wrong p
       unfolding among?
@@ -136,34 +136,34 @@ module _ (m r : ℕ) (low : 1 ≤ r) (high : r ≤ suc m) where
           (λ e. rw (eq-eqb p r e, ap (changes (decide m turned)) e ∙ row_stays) (⊕-zero (wrong && true)))
           (λ ne. rw (ne_eqb p r ne) (sym (and-false wrong)))
 
-      out-row : (p : ℕ) → not (among? (r ∷ []) p) && change p ≡ changes (decide m turned) p
+      out_row : (p : ℕ) → not (among? (r ∷ []) p) && change p ≡ changes (decide m turned) p
       unfolding among?
-      out-row p =
+      out_row p =
           by_cases (ℕ_discrete p r)
           (λ e. rw (eq-eqb p r e) (sym (ap (changes (decide m turned)) e ∙ row_stays)))
           (λ ne. rw (ne_eqb p r ne, and-false wrong))
 
-      pub count-inside : count (suc m) (λ p. among? (r ∷ []) p && change p) ≡ pick wrong 1
-      count-inside =
+      pub count_inside : count (suc m) (λ p. among? (r ∷ []) p && change p) ≡ pick wrong 1
+      count_inside =
           count_same (suc m) _ (one m r wrong) (λ j l. in_row (suc j)) ∙ one_count m r wrong (inr (low, high)) ∙ ap (λ (t : Bool). pick t 1) (there wrong)
 
-      pub count-outside : count (suc m) (λ p. not (among? (r ∷ []) p) && change p) ≡ pick (odd (suc m) turned) 1
-      count-outside =
-          count_same (suc m) _ (changes (decide m turned)) (λ j l. out-row (suc j))
+      pub count_outside : count (suc m) (λ p. not (among? (r ∷ []) p) && change p) ≡ pick (odd (suc m) turned) 1
+      count_outside =
+          count_same (suc m) _ (changes (decide m turned)) (λ j l. out_row (suc j))
           ∙ sym (count_same (suc m) (diff turned (mended m turned)) (changes (decide m turned))
           (λ j l. ⊕-cancel (turned (suc j)) (changes (decide m turned) (suc j))))
-          ∙ mended-count m turned kept
+          ∙ mended_count m turned kept
 
-      pub change-meant : MeantLane m (r ∷ []) f (diff f change)
-      change-meant =
+      pub change_meant : MeantLane m (r ∷ []) f (diff f change)
+      change_meant =
           record {
             valid = valid_same m (mended m turned) (diff f change)
-                (λ j l. ⊕-assoc (f (suc j)) (one m r wrong (suc j)) (changes (decide m turned) (suc j))) (mended-valid m turned kept);
+                (λ j l. ⊕-assoc (f (suc j)) (one m r wrong (suc j)) (changes (decide m turned) (suc j))) (mended_valid m turned kept);
             near =
                 rw (
                   count_same (suc m) (outside (r ∷ []) f (diff f change)) (λ p. not (among? (r ∷ []) p) && change p)
                       (λ j l. ap (λ (t : Bool). not (among? (r ∷ []) (suc j)) && t) (⊕-cancel (f (suc j)) (change (suc j)))),
-                  count-outside,
+                  count_outside,
                 )
                 (pick_one (odd (suc m) turned));
           }

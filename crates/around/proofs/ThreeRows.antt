@@ -22,19 +22,19 @@ use Rattle.around.specs.Named.{among?, spare?}
 use Rattle.around.specs.Lane.{outside, MeantLane, weight}
 use Rattle.around.specs.Inner.{more_rows, mark, Made}
 use Rattle.around.proofs.Lanes.{RowsTo}
-use Rattle.around.proofs.Marks.{digits, digits-diff, digits_same, one, RowOrNone, one_count, one_digit}
+use Rattle.around.proofs.Marks.{digits, digits_diff, digits_same, one, RowOrNone, one_count, one_digit}
 
 module _ (m : ℕ) (small : m < 128) where
   pub record Three (a b c : ℕ) : Type 0 where
-    pub a-row : (1 ≤ a) × (a ≤ suc m)
-    pub b-row : (1 ≤ b) × (b ≤ suc m)
-    pub c-row : RowOrNone m c
+    pub a_row : (1 ≤ a) × (a ≤ suc m)
+    pub b_row : (1 ≤ b) × (b ≤ suc m)
+    pub c_row : RowOrNone m c
     pub a_b : a ≡ b → ⊥
     pub a_c : a ≡ c → ⊥
     pub b_c : b ≡ c → ⊥
 
-  pub three-within : {a b c : ℕ} → Three a b c → RowsTo (suc m) (more_rows a b c)
-  three-within {a} {b} {c} rows = by c rows.c-row
+  pub three_within : {a b c : ℕ} → Three a b c → RowsTo (suc m) (more_rows a b c)
+  three_within {a} {b} {c} rows = by c rows.c-row
     where
       by : (c : ℕ) → RowOrNone m c → RowsTo (suc m) (more_rows a b c)
       by zero h = (rows.a-row.0, rows.a-row.1, (rows.b-row.0, rows.b-row.1, tt))
@@ -55,17 +55,17 @@ module _ (m : ℕ) (small : m < 128) where
     rc = rows.c-row
 
     -- the digits of such a lane are made by the rows' marks
-    flips-made : (x y z : Bool) → Made (digits m (flips a b c x y z)) (mark (suc m) a) (mark (suc m) b) (mark (suc m) c) x y z
-    flips-made x y z k h =
-        digits-diff m (one m a x) (diff (one m b y) (one m c z)) k
+    flips_made : (x y z : Bool) → Made (digits m (flips a b c x y z)) (mark (suc m) a) (mark (suc m) b) (mark (suc m) c) x y z
+    flips_made x y z k h =
+        digits_diff m (one m a x) (diff (one m b y) (one m c z)) k
         ∙ ap₂ ◌⊕◌ (one_digit m small a x ra k h)
-        (digits-diff m (one m b y) (one m c z) k ∙ ap₂ ◌⊕◌ (one_digit m small b y rb k h) (one_digit m small c z rc k h))
+        (digits_diff m (one m b y) (one m c z) k ∙ ap₂ ◌⊕◌ (one_digit m small b y rb k h) (one_digit m small c z rc k h))
 
     -- a lane whose digits they make is valid once these rows are changed
-    made-valid : (f : Lane) (x y z : Bool) → Made (digits m f) (mark (suc m) a) (mark (suc m) b) (mark (suc m) c) x y z → Valid m (diff f (flips a b c x y z))
-    made-valid f x y z made =
+    made_valid : (f : Lane) (x y z : Bool) → Made (digits m f) (mark (suc m) a) (mark (suc m) b) (mark (suc m) c) x y z → Valid m (diff f (flips a b c x y z))
+    made_valid f x y z made =
         let g = flips a b c x y z in
-        let same : (k : ℕ) → k < 8 → digits m f k ≡ digits m g k = λ k h. made k h ∙ sym (flips-made x y z k h) in
+        let same : (k : ℕ) → k < 8 → digits m f k ≡ digits m g k = λ k h. made k h ∙ sym (flips_made x y z k h) in
         let bits : (k : ℕ) → k < 7 → bit k (sum m f) ≡ bit k (sum m g) = λ k h. digit_low k h (sum m f) (sum m g) (odd (suc m) f) (odd (suc m) g) (same k (omega arith)) in
         record {
           sum_zero = sum_diff m f g ∙ ap (bit_xor (sum m f)) (sym (bit_ext_below 7 (sum m f) (sum m g) (sum_lt 7 m f small) (sum_lt 7 m g small) bits))
@@ -86,26 +86,26 @@ module _ (m : ℕ) (small : m < 128) where
     unfolding among?
     still x y z j = by c
       where
-        outside-two : (s t : Bool) → not (s || (t || false)) && ((x && s) ⊕ ((y && t) ⊕ (z && false))) ≡ false
-        outside-two true t = refl
-        outside-two false true = refl
-        outside-two false false = rw (and-false x, and-false y, and-false z)
+        outside_two : (s t : Bool) → not (s || (t || false)) && ((x && s) ⊕ ((y && t) ⊕ (z && false))) ≡ false
+        outside_two true t = refl
+        outside_two false true = refl
+        outside_two false false = rw (and-false x, and-false y, and-false z)
 
-        outside-three : (s t u : Bool) → not (s || (t || (u || false))) && ((x && s) ⊕ ((y && t) ⊕ (z && u))) ≡ false
-        outside-three true t u = refl
-        outside-three false true u = refl
-        outside-three false false true = refl
-        outside-three false false false = rw (and-false x, and-false y, and-false z)
+        outside_three : (s t u : Bool) → not (s || (t || (u || false))) && ((x && s) ⊕ ((y && t) ⊕ (z && u))) ≡ false
+        outside_three true t u = refl
+        outside_three false true u = refl
+        outside_three false false true = refl
+        outside_three false false false = rw (and-false x, and-false y, and-false z)
 
         by : (c : ℕ) → not (among? (more_rows a b c) (suc j)) && flips a b c x y z (suc j) ≡ false
-        by zero = rw (eqb-suc-zero j) (outside-two (eqb (suc j) a) (eqb (suc j) b))
-        by (suc c) = outside-three (eqb (suc j) a) (eqb (suc j) b) (eqb (suc j) (suc c))
+        by zero = rw (eqb-suc-zero j) (outside_two (eqb (suc j) a) (eqb (suc j) b))
+        by (suc c) = outside_three (eqb (suc j) a) (eqb (suc j) b) (eqb (suc j) (suc c))
 
-    pub made-meant : (f : Lane) (x y z : Bool) → Made (digits m f) (mark (suc m) a) (mark (suc m) b) (mark (suc m) c) x y z
+    pub made_meant : (f : Lane) (x y z : Bool) → Made (digits m f) (mark (suc m) a) (mark (suc m) b) (mark (suc m) c) x y z
         → MeantLane m named f (diff f (flips a b c x y z))
-    made-meant f x y z made =
+    made_meant f x y z made =
         record {
-          valid = made-valid f x y z made;
+          valid = made_valid f x y z made;
           near =
               rw (
                 count_same (suc m) (outside named f (diff f (flips a b c x y z))) (λ p. false)
@@ -120,16 +120,16 @@ module _ (m : ℕ) (small : m < 128) where
       abbrev d : Lane
       d = diff f g
 
-      no-spare : (c : ℕ) → pick (spare? (more_rows a b c)) 1 ≡ 0
-      no-spare zero = refl
-      no-spare (suc c) = refl
+      no_spare : (c : ℕ) → pick (spare? (more_rows a b c)) 1 ≡ 0
+      no_spare zero = refl
+      no_spare (suc c) = refl
 
       -- none of the three
       elsewhere : (j : ℕ) → j < suc m → (suc j ≡ a → ⊥) → (suc j ≡ b → ⊥) → (suc j ≡ c → ⊥) → d (suc j) ≡ false
       unfolding among?
       elsewhere j l na nb nc =
           ap (λ (t : Bool). not t && d (suc j)) (sym (by c nc))
-          ∙ empty (suc m) (outside named f g) (omega (arith, meant.near, no-spare c)) j l
+          ∙ empty (suc m) (outside named f g) (omega (arith, meant.near, no_spare c)) j l
         where
           by : (c : ℕ) → (suc j ≡ c → ⊥) → among? (more_rows a b c) (suc j) ≡ false
           by zero nc = rw (ne_eqb (suc j) a na, ne_eqb (suc j) b nb)
@@ -161,11 +161,11 @@ module _ (m : ℕ) (small : m < 128) where
           none : (x y z : Bool) → false ≡ (x && false) ⊕ ((y && false) ⊕ (z && false))
           none x y z = rw (and-false x, and-false y, and-false z)
 
-      pub meant-made : Made (digits m f) (mark (suc m) a) (mark (suc m) b) (mark (suc m) c) (d a) (d b) (d c)
-      meant-made k h =
-          sym (digits-diff m f g k ∙ ap (λ (t : Bool). digits m f k ⊕ t) (none k) ∙ ⊕-zero (digits m f k))
+      pub meant_made : Made (digits m f) (mark (suc m) a) (mark (suc m) b) (mark (suc m) c) (d a) (d b) (d c)
+      meant_made k h =
+          sym (digits_diff m f g k ∙ ap (λ (t : Bool). digits m f k ⊕ t) (none k) ∙ ⊕-zero (digits m f k))
           ∙ digits_same m d (flips a b c (d a) (d b) (d c)) in_rows k
-          ∙ flips-made (d a) (d b) (d c) k h
+          ∙ flips_made (d a) (d b) (d c) k h
         where
           none : (k : ℕ) → digits m g k ≡ false
           none k = by (eqb k 7)
@@ -176,11 +176,11 @@ module _ (m : ℕ) (small : m < 128) where
 
     -- ---- counts
 
-    count-apart : (n : ℕ) (u v : Lane) → ((j : ℕ) → j < n → u (suc j) && v (suc j) ≡ false) → count n (diff u v) ≡ count n u + count n v
+    count_apart : (n : ℕ) (u v : Lane) → ((j : ℕ) → j < n → u (suc j) && v (suc j) ≡ false) → count n (diff u v) ≡ count n u + count n v
     unfolding count
-    count-apart zero u v h = refl
-    count-apart (suc n) u v h =
-        omega (arith, count-apart n u v (λ j l. h j (omega arith)), both (u (suc n)) (v (suc n)) (h n (omega arith)))
+    count_apart zero u v h = refl
+    count_apart (suc n) u v h =
+        omega (arith, count_apart n u v (λ j l. h j (omega arith)), both (u (suc n)) (v (suc n)) (h n (omega arith)))
       where
         both : (x y : Bool) → x && y ≡ false → pick (x ⊕ y) 1 ≡ pick x 1 + pick y 1
         both true true e = absurd (true≢false e)
@@ -194,16 +194,16 @@ module _ (m : ℕ) (small : m < 128) where
         (λ e. rw (ne_eqb p r (λ z. ne (sym e ∙ z)), and-false y) (and-false (x && eqb p q)))
         (λ n. rw (ne_eqb p q n, and-false x))
 
-    pub flips-inside : (x y z : Bool) → (c ≡ 0 → z ≡ false)
+    pub flips_inside : (x y z : Bool) → (c ≡ 0 → z ≡ false)
         → count (suc m) (λ p. among? named p && flips a b c x y z p) ≡ pick x 1 + pick y 1 + pick z 1
-    flips-inside x y z no_third =
+    flips_inside x y z no_third =
         count_same (suc m) (λ p. among? named p && flips a b c x y z p) (flips a b c x y z)
         (λ j l. all (among? named (suc j)) (flips a b c x y z (suc j)) (still x y z j))
-        ∙ count-apart (suc m) (one m a x) (diff (one m b y) (one m c z))
+        ∙ count_apart (suc m) (one m a x) (diff (one m b y) (one m c z))
         (λ j l. apart3 (one m a x (suc j)) (one m b y (suc j)) (one m c z (suc j)) (never_both a b rows.a_b x y (suc j)) (never_both a c rows.a_c x z (suc j)))
         ∙ omega (
           arith,
-          count-apart (suc m) (one m b y) (one m c z) (λ j l. never_both b c rows.b_c y z (suc j)),
+          count_apart (suc m) (one m b y) (one m c z) (λ j l. never_both b c rows.b_c y z (suc j)),
           one_count m a x ra ∙ ap (λ (t : Bool). pick t 1) (there a x (λ e. omega (arith, rows.a-row))),
           one_count m b y rb ∙ ap (λ (t : Bool). pick t 1) (there b y (λ e. omega (arith, rows.b-row))),
           one_count m c z rc ∙ ap (λ (t : Bool). pick t 1) (by_cases (ℕ_discrete c 0)
@@ -221,6 +221,6 @@ module _ (m : ℕ) (small : m < 128) where
         there : (r : ℕ) (x : Bool) → (r ≡ 0 → ⊥) → x && not (eqb r 0) ≡ x
         there r x ne = rw (ne_eqb r 0 ne) (and-true x)
 
-    pub flips-outside : (x y z : Bool) → count (suc m) (λ p. not (among? named p) && flips a b c x y z p) ≡ 0
-    flips-outside x y z =
+    pub flips_outside : (x y z : Bool) → count (suc m) (λ p. not (among? named p) && flips a b c x y z p) ≡ 0
+    flips_outside x y z =
         count_same (suc m) (λ p. not (among? named p) && flips a b c x y z p) (λ p. false) (λ j l. still x y z j) ∙ count_empty (suc m)

@@ -16,7 +16,7 @@ use Rattle.lane.proofs.Bits.{bit_of_xor, bit_ext_below}
 use Rattle.lane.proofs.Linear.{count_same, valid_same}
 use Rattle.lane.proofs.Distance.{never_two}
 use Rattle.lane.proofs.Rows.{split_below}
-use Rattle.lane.proofs.Mended.{mended-valid, mended-count, mended-near, near-kept}
+use Rattle.lane.proofs.Mended.{mended_valid, mended_count, mended_near, near_kept}
 use Rattle.shape.specs.declared.Shape.{Shape}
 use Rattle.shape.specs.Shape.{before, rows}
 use Rattle.ground.specs.Totals.{total}
@@ -48,30 +48,30 @@ module _ (shape : Shape) (block : List ℕ) where
   abbrev pub AllKept : Type 0
   AllKept = (i : ℕ) → i < 32 → lost? (decide (before shape) (lane i block)) ≡ false
 
-  pub kept-none : AllKept → lanes_lost shape block ≡ 0
+  pub kept_none : AllKept → lanes_lost shape block ≡ 0
   unfolding lanes_lost
-  kept-none k = none_counted 32 (λ i. lost? (decide (before shape) (lane i block))) k
+  kept_none k = none_counted 32 (λ i. lost? (decide (before shape) (lane i block))) k
 
   pub none_kept : lanes_lost shape block ≡ 0 → AllKept
   unfolding lanes_lost
   none_kept e = counted_none 32 (λ i. lost? (decide (before shape) (lane i block))) e
 
-  pub mended-kept : lanes_lost shape block ≡ 0 → mended_block shape block ≡ mended_lanes shape block
+  pub mended_kept : lanes_lost shape block ≡ 0 → mended_block shape block ≡ mended_lanes shape block
   unfolding mended_block
-  mended-kept e = ap (λ (n : ℕ). if_zero n (mended_lanes shape block) block) e
+  mended_kept e = ap (λ (n : ℕ). if_zero n (mended_lanes shape block) block) e
 
-  pub mended-lost : (n : ℕ) → lanes_lost shape block ≡ suc n → mended_block shape block ≡ block
+  pub mended_lost : (n : ℕ) → lanes_lost shape block ≡ suc n → mended_block shape block ≡ block
   unfolding mended_block
-  mended-lost n e = ap (λ (n : ℕ). if_zero n (mended_lanes shape block) block) e
+  mended_lost n e = ap (λ (n : ℕ). if_zero n (mended_lanes shape block) block) e
 
-  pub length-lanes : length (mended_lanes shape block) ≡ length block
+  pub length_lanes : length (mended_lanes shape block) ≡ length block
   unfolding mended_lanes
-  length-lanes = length_list_of (length block) _
+  length_lanes = length_list_of (length block) _
 
   -- where no lane changes, neither does the block
-  pub unchanged-lanes : ((i : ℕ) → i < 32 → (p : ℕ) → changes (decide (before shape) (lane i block)) p ≡ false) → block ≡ mended_lanes shape block
+  pub unchanged_lanes : ((i : ℕ) → i < 32 → (p : ℕ) → changes (decide (before shape) (lane i block)) p ≡ false) → block ≡ mended_lanes shape block
   unfolding mended_lanes
-  unchanged-lanes h =
+  unchanged_lanes h =
       list_is (length block) block _ refl
       (λ j l.
       sym (xor_zero_r (get_or block j 0))
@@ -79,31 +79,31 @@ module _ (shape : Shape) (block : List ℕ) where
 
   module _ (long : rows shape ≤ length block) where
     -- each lane of the mended block is that lane mended
-    pub lane-mended : (i : ℕ) → i < 32 → (j : ℕ) → j < rows shape → lane i (mended_lanes shape block) (suc j) ≡ mended (before shape) (lane i block) (suc j)
+    pub lane_mended : (i : ℕ) → i < 32 → (j : ℕ) → j < rows shape → lane i (mended_lanes shape block) (suc j) ≡ mended (before shape) (lane i block) (suc j)
     unfolding mended_lanes
-    lane-mended i hi j h =
+    lane_mended i hi j h =
         ap (bit i) (get_or_list_of (length block) _ j (omega arith))
         ∙ bit_of_xor i (get_or block j 0) (word (λ i. changes (decide (before shape) (lane i block)) (suc j)))
         ∙ ap (λ (b : Bool). bit i (get_or block j 0) ⊕ b) (bit_number 32 i _ hi)
 
-    lane-apart : (i : ℕ) → i < 32
+    lane_apart : (i : ℕ) → i < 32
         → apart (before shape) (lane i block) (lane i (mended_lanes shape block)) ≡ apart (before shape) (lane i block) (mended (before shape) (lane i block))
-    lane-apart i hi =
+    lane_apart i hi =
         count_same (rows shape) (diff (lane i block) (lane i (mended_lanes shape block))) (diff (lane i block) (mended (before shape) (lane i block)))
-        (λ j h. ap (λ (b : Bool). lane i block (suc j) ⊕ b) (lane-mended i hi j h))
+        (λ j h. ap (λ (b : Bool). lane i block (suc j) ⊕ b) (lane_mended i hi j h))
 
     -- the bits changed are as many as there are odd lanes
-    pub changed-odd : AllKept → bits_changed shape block (mended_lanes shape block) ≡ total 32 (λ i. pick (odd (rows shape) (lane i block)) 1)
+    pub changed_odd : AllKept → bits_changed shape block (mended_lanes shape block) ≡ total 32 (λ i. pick (odd (rows shape) (lane i block)) 1)
     unfolding bits_changed
-    changed-odd k = total_same 32 _ _ (λ i hi. lane-apart i hi ∙ mended-count (before shape) (lane i block) (k i hi))
+    changed_odd k = total_same 32 _ _ (λ i hi. lane_apart i hi ∙ mended_count (before shape) (lane i block) (k i hi))
 
-    pub lanes-valid : AllKept → ValidBlock shape (mended_lanes shape block)
-    lanes-valid k i hi =
-        valid_same (before shape) (mended (before shape) (lane i block)) (lane i (mended_lanes shape block)) (λ j h. sym (lane-mended i hi j h))
-        (mended-valid (before shape) (lane i block) (k i hi))
+    pub lanes_valid : AllKept → ValidBlock shape (mended_lanes shape block)
+    lanes_valid k i hi =
+        valid_same (before shape) (mended (before shape) (lane i block)) (lane i (mended_lanes shape block)) (λ j h. sym (lane_mended i hi j h))
+        (mended_valid (before shape) (lane i block) (k i hi))
 
-    pub lanes-near : AllKept → (i : ℕ) → i < 32 → apart (before shape) (lane i block) (lane i (mended_lanes shape block)) ≤ 1
-    lanes-near k i hi = rw (lane-apart i hi) (mended-near (before shape) (lane i block) (k i hi))
+    pub lanes_near : AllKept → (i : ℕ) → i < 32 → apart (before shape) (lane i block) (lane i (mended_lanes shape block)) ≤ 1
+    lanes_near k i hi = rw (lane_apart i hi) (mended_near (before shape) (lane i block) (k i hi))
 
 -- ---- one block at most
 
@@ -119,24 +119,24 @@ never_second shape found a b fa fb va vb na nb =
 
 module _ (shape : Shape) (found : List ℕ) (long : rows shape ≤ length found) where
   -- a block with no lane lost is mended to a valid block within one bit a lane
-  pub kept-valid : lanes_lost shape found ≡ 0 → ValidBlock shape (mended_block shape found)
-  kept-valid e = rw (mended-kept shape found e) (lanes-valid shape found long (none_kept shape found e))
+  pub kept_valid : lanes_lost shape found ≡ 0 → ValidBlock shape (mended_block shape found)
+  kept_valid e = rw (mended_kept shape found e) (lanes_valid shape found long (none_kept shape found e))
 
   pub kept_near : lanes_lost shape found ≡ 0 → Near shape found (mended_block shape found)
-  kept_near e = rw (mended-kept shape found e) (lanes-near shape found long (none_kept shape found e))
+  kept_near e = rw (mended_kept shape found e) (lanes_near shape found long (none_kept shape found e))
 
   -- where a valid block is within one bit a lane, no lane is lost and the block is mended to it
   module _ (meant : List ℕ) (valid : ValidBlock shape meant) (near : Near shape found meant) where
     pub near_none : lanes_lost shape found ≡ 0
-    near_none = kept-none shape found (λ i hi. near-kept (before shape) (lane i found) (lane i meant) (valid i hi) (near i hi))
+    near_none = kept_none shape found (λ i hi. near_kept (before shape) (lane i found) (lane i meant) (valid i hi) (near i hi))
 
-    pub near-rows : Fitting (mended_block shape found) → Fitting meant → SameRows shape (mended_block shape found) meant
-    near-rows fm fn =
-        never_second shape found (mended_block shape found) meant fm fn (kept-valid near_none) valid (kept_near near_none) near
+    pub near_rows : Fitting (mended_block shape found) → Fitting meant → SameRows shape (mended_block shape found) meant
+    near_rows fm fn =
+        never_second shape found (mended_block shape found) meant fm fn (kept_valid near_none) valid (kept_near near_none) near
 
   -- so where a lane is lost there is no such block
-  pub lost-none : (n : ℕ) → lanes_lost shape found ≡ suc n → (meant : List ℕ) → ValidBlock shape meant → Near shape found meant → ⊥
-  lost-none n e meant v h = let z = near_none meant v h in omega arith
+  pub lost_none : (n : ℕ) → lanes_lost shape found ≡ suc n → (meant : List ℕ) → ValidBlock shape meant → Near shape found meant → ⊥
+  lost_none n e meant v h = let z = near_none meant v h in omega arith
 
 -- words that fit are mended to words that fit
 pub mended_fits : (shape : Shape) (found : List ℕ) → Fitting found → Fitting (mended_block shape found)
@@ -147,7 +147,7 @@ mended_fits shape found f = go (lanes_lost shape found)
     lanes j =
         ⊎_elim
         (λ h. rw (get_or_list_of (length found) _ j h) (xor_lt 32 (get_or found j 0) _ (f j) (number_lt 32 _)))
-        (λ h. rw (get_or-eq_default (mended_lanes shape found) 0 {n = j} (rw (length-lanes shape found) h)) (pow_pos 32))
+        (λ h. rw (get_or-eq_default (mended_lanes shape found) 0 {n = j} (rw (length_lanes shape found) h)) (pow_pos 32))
         (split_below j (length found))
 
     go : (n : ℕ) → Fitting (if_zero n (mended_lanes shape found) found)
@@ -159,5 +159,5 @@ unfolding mended_block
 length_mended shape found = go (lanes_lost shape found)
   where
     go : (n : ℕ) → length (if_zero n (mended_lanes shape found) found) ≡ length found
-    go zero = length-lanes shape found
+    go zero = length_lanes shape found
     go (suc n) = refl

@@ -25,14 +25,14 @@ use Rattle.block.specs.Verdict.{verdict_of}
 use Rattle.sums.specs.Sums.{sums_of}
 use Rattle.sums.specs.Inner.{xor_rows, any_of}
 use Rattle.block.specs.Inner.{above_of, lost_lanes, naming_lanes, flipped_in, xor_all, with_checks}
-use Rattle.sums.proofs.RowSums.{sums-are}
-use Rattle.sums.proofs.Doubt.{word_lt, any-lt}
+use Rattle.sums.proofs.RowSums.{sums_are}
+use Rattle.sums.proofs.Doubt.{word_lt, any_lt}
 use Rattle.block.proofs.Lanes.{ones_total}
-use Rattle.block.proofs.Blocks.{mended-kept}
-use Rattle.block.proofs.Judged.{lost-as-lt, above_lt, lost-decides, mended-decides, clean-decides, mends-lanes}
-use Rattle.block.proofs.Told.{lost-some, mended-none}
-use Rattle.block.proofs.Decided.{decided, lanes-mended}
-use Rattle.block.proofs.Data.{data-lt}
+use Rattle.block.proofs.Blocks.{mended_kept}
+use Rattle.block.proofs.Judged.{lost_as_lt, above_lt, lost_decides, mended_decides, clean_decides, mends_lanes}
+use Rattle.block.proofs.Told.{lost_some, mended_none}
+use Rattle.block.proofs.Decided.{decided, lanes_mended}
+use Rattle.block.proofs.Data.{data_lt}
 use Rattle.block.proofs.Encoding.{built}
 
 -- every word of a list fits in 32 bits
@@ -57,7 +57,7 @@ row_sums shape block =
     digit 0 ∷ digit 1 ∷ digit 2 ∷ digit 3 ∷ digit 4 ∷ digit 5 ∷ digit 6 ∷ xor_rows (λ p. true) (rows shape) (λ p. row p block) ∷ []
 
 row_sums_lem : (shape : Shape) (block : List ℕ) → ((k : ℕ) → get_or block k 0 < 2 ^ 32) → row_sums shape block ≡ sums_of shape block
-row_sums_lem shape block fits = sums-are shape block (λ p. row p block) each (λ p f l. refl) refl refl refl refl refl refl refl refl
+row_sums_lem shape block fits = sums_are shape block (λ p. row p block) each (λ p f l. refl) refl refl refl refl refl refl refl refl
   where
     each : (p : ℕ) → row p block < 2 ^ 32
     each zero = pow_pos 32
@@ -71,7 +71,7 @@ written shape list e =
     let block = data_block shape list in
     sym
     (ap (λ (sums : List ℕ). set (with_checks sums block) (before shape) (bit_xor (get_or sums 7 0) (xor_all 7 sums)))
-    (row_sums_lem shape block (data-lt shape list (fit_each list e)))
+    (row_sums_lem shape block (data_lt shape list (fit_each list e)))
     ∙ built shape list (fit_each list e))
 
 module _ (shape : Shape) (block : List ℕ) (fit : fit? block ≡ true) (long : length block ≡ 72) where
@@ -87,39 +87,39 @@ module _ (shape : Shape) (block : List ℕ) (fit : fit? block ≡ true) (long : 
   are : sums ≡ sums_of shape block
   are = row_sums_lem shape block (fit_each block fit)
 
-  parity-lt : parity < 2 ^ 32
-  parity-lt = omega (arith, ap (λ (l : List ℕ). get_or l 7 0) are, word_lt shape block 7 (omega arith))
+  parity_lt : parity < 2 ^ 32
+  parity_lt = omega (arith, ap (λ (l : List ℕ). get_or l 7 0) are, word_lt shape block 7 (omega arith))
 
   any_small : any_of 7 sums < 2 ^ 32
-  any_small = omega (arith, ap (any_of 7) are, any-lt shape block 7 (omega arith))
+  any_small = omega (arith, ap (any_of 7) are, any_lt shape block 7 (omega arith))
 
   whole : rows shape ≤ length block
   whole = let h = rows_fit shape in omega arith
 
-  above-small : above_of (before shape) 7 sums < 2 ^ 32
-  above-small =
+  above_small : above_of (before shape) 7 sums < 2 ^ 32
+  above_small =
       above_lt (before shape) 7 sums (λ k h. omega (arith, ap (λ (l : List ℕ). get_or l k 0) are, word_lt shape block k (omega arith)))
 
   -- a lost block: how many lanes of each kind, and the block as it was
-  pub lost-by-words : (bit_or (lost even) (lost beyond) ≡ 0 → ⊥)
+  pub lost_by_words : (bit_or (lost even) (lost beyond) ≡ 0 → ⊥)
       → (verdict_of shape block ≡ Lost (bits (lost even)) (bits (lost beyond))) × (mended_block shape block ≡ block)
   unfolding mended_block
-  lost-by-words ne =
-      let says = decided shape block whole are (lost-decides shape sums parity-lt any_small ne) in
+  lost_by_words ne =
+      let says = decided shape block whole are (lost_decides shape sums parity_lt any_small ne) in
       let counted : (kind : Kind) → ones (lost kind) ≡ bits (lost kind) =
-      λ kind. ones_total 32 (lost kind) (lost-as-lt shape sums parity-lt any_small kind) in
-      (sym says ∙ ap₂ Lost (counted even) (counted beyond), refused_kept (lanes_lost shape block) _ block (lost-some shape block _ says _ _ refl))
+      λ kind. ones_total 32 (lost kind) (lost_as_lt shape sums parity_lt any_small kind) in
+      (sym says ∙ ap₂ Lost (counted even) (counted beyond), refused_kept (lanes_lost shape block) _ block (lost_some shape block _ says _ _ refl))
 
   -- a mended block: how many odd lanes, and the row that each one's sum names flipped
-  pub mended-by-words : bit_or (lost even) (lost beyond) ≡ 0 → (parity ≡ 0 → ⊥)
+  pub mended_by_words : bit_or (lost even) (lost beyond) ≡ 0 → (parity ≡ 0 → ⊥)
       → (verdict_of shape block ≡ Mended (bits parity))
       × (mended_block shape block ≡ flipped_in (rows shape) sums (λ i. bit i (naming_lanes (before shape) parity sums)) block)
-  mended-by-words z ne =
-      let says = decided shape block whole are (mended-decides shape sums parity-lt any_small z ne) in (
-        sym says ∙ ap Mended (ones_total 32 parity parity-lt),
-        mended-kept shape block (mended-none shape block _ says _ refl) ∙ sym (lanes-mended shape block are (mends-lanes shape sums above-small block)),
+  mended_by_words z ne =
+      let says = decided shape block whole are (mended_decides shape sums parity_lt any_small z ne) in (
+        sym says ∙ ap Mended (ones_total 32 parity parity_lt),
+        mended_kept shape block (mended_none shape block _ says _ refl) ∙ sym (lanes_mended shape block are (mends_lanes shape sums above_small block)),
       )
 
   -- a clean block
-  pub clean-by-words : bit_or (lost even) (lost beyond) ≡ 0 → parity ≡ 0 → verdict_of shape block ≡ Clean
-  clean-by-words z none = sym (decided shape block whole are (clean-decides shape sums parity-lt any_small z none))
+  pub clean_by_words : bit_or (lost even) (lost beyond) ≡ 0 → parity ≡ 0 → verdict_of shape block ≡ Clean
+  clean_by_words z none = sym (decided shape block whole are (clean_decides shape sums parity_lt any_small z none))

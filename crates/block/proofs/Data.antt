@@ -9,7 +9,7 @@ use lib.Dec.{lit<}
 use lib.ListN.{length, get_or, get_or-replicate, get_or-eq_default}
 use lib.Pow.{pow_pos}
 use Rattle.lane.specs.Rows.{power?, DataRow, rows_where}
-use Rattle.lane.proofs.Rows.{row-passes, row-there, rows-rise, data_row, data_fails, split_below}
+use Rattle.lane.proofs.Rows.{row_passes, row_there, rows_rise, data_row, data_fails, split_below}
 use Rattle.shape.specs.declared.Shape.{Shape}
 use Rattle.shape.specs.declared.Shape.TheVariants.{One, Two}
 use Rattle.shape.proofs.Sizes.{before_lt}
@@ -38,55 +38,55 @@ module _ (shape : Shape) where
   abbrev test : ℕ → Bool
   test p = not (power? (digits shape) p)
 
-  abbrev pub dataRow : ℕ → ℕ
-  dataRow k = get_or (data_rows_of shape) k 0
+  abbrev pub row_of_data : ℕ → ℕ
+  row_of_data k = get_or (data_rows_of shape) k 0
 
   -- each entry of the table is a data row
-  pub entry_row : (k : ℕ) → k < words shape → DataRow (before shape) (dataRow k)
+  pub entry_row : (k : ℕ) → k < words shape → DataRow (before shape) (row_of_data k)
   entry_row k h =
-      let r = row-passes test (before shape) k (rw (data_count shape) h) in
-      data_row (digits shape) (before shape) (dataRow k) (before_digits shape) r.0 r.1 r.2
+      let r = row_passes test (before shape) k (rw (data_count shape) h) in
+      data_row (digits shape) (before shape) (row_of_data k) (before_digits shape) r.0 r.1 r.2
 
   -- each data row is an entry
-  pub row-entry : (p : ℕ) → DataRow (before shape) p → (k : ℕ) × (k < words shape) × (dataRow k ≡ p)
-  row-entry p d =
-      let r = row-there test (before shape) p d.first d.last (data_fails (digits shape) (before shape) p d) in
+  pub row_entry : (p : ℕ) → DataRow (before shape) p → (k : ℕ) × (k < words shape) × (row_of_data k ≡ p)
+  row_entry p d =
+      let r = row_there test (before shape) p d.first d.last (data_fails (digits shape) (before shape) p d) in
       (r.0, rw (data_count shape) at r.1, r.2)
 
   -- no two entries are the same
-  pub entry-once : (k j : ℕ) → k < words shape → j < words shape → dataRow k ≡ dataRow j → k ≡ j
-  entry-once k j hk hj e =
-      ⊎_elim (λ l. let r = rows-rise test (before shape) k j l (rw (data_count shape) hj) in absurd (omega arith))
-      (λ l. ⊎_elim (λ g. let r = rows-rise test (before shape) j k g (rw (data_count shape) hk) in absurd (omega arith)) (λ g. omega arith) (split_below j k))
+  pub entry_once : (k j : ℕ) → k < words shape → j < words shape → row_of_data k ≡ row_of_data j → k ≡ j
+  entry_once k j hk hj e =
+      ⊎_elim (λ l. let r = rows_rise test (before shape) k j l (rw (data_count shape) hj) in absurd (omega arith))
+      (λ l. ⊎_elim (λ g. let r = rows_rise test (before shape) j k g (rw (data_count shape) hk) in absurd (omega arith)) (λ g. omega arith) (split_below j k))
       (split_below k j)
 
   module _ (list : List ℕ) where
-    pub length-data : length (data_block shape list) ≡ 72
+    pub length_data : length (data_block shape list) ≡ 72
     unfolding data_block
-    length-data = length_stores blank _ _ (words shape) ∙ length_blank
+    length_data = length_stores blank _ _ (words shape) ∙ length_blank
 
     -- data word k stands in data row k
-    pub data-hit : (k : ℕ) → k < words shape → get_or (data_block shape list) (dataRow k - 1) 0 ≡ get_or list k 0
+    pub data_hit : (k : ℕ) → k < words shape → get_or (data_block shape list) (row_of_data k - 1) 0 ≡ get_or list k 0
     unfolding data_block
-    data-hit k h =
+    data_hit k h =
         let d = entry_row k h in
         let b = before_lt shape in
-        stores_hit blank (λ k. dataRow k - 1) (λ k. get_or list k 0) k (words shape)
-        (λ j hj e. let f = entry_row j hj in entry-once k j h hj (omega (arith, e, d.first, f.first))) h
+        stores_hit blank (λ k. row_of_data k - 1) (λ k. get_or list k 0) k (words shape)
+        (λ j hj e. let f = entry_row j hj in entry_once k j h hj (omega (arith, e, d.first, f.first))) h
         (rw length_blank (omega (arith, d.last, d.first)))
 
     -- a place that is no data row holds zero
-    pub data-miss : (j : ℕ) → (DataRow (before shape) (suc j) → ⊥) → get_or (data_block shape list) j 0 ≡ 0
+    pub data_miss : (j : ℕ) → (DataRow (before shape) (suc j) → ⊥) → get_or (data_block shape list) j 0 ≡ 0
     unfolding data_block
-    data-miss j ne =
-        stores_miss blank (λ k. dataRow k - 1) (λ k. get_or list k 0) j (words shape)
-        (λ k h e. let d = entry_row k h in ne (rw (sym-row k j e d) d))
+    data_miss j ne =
+        stores_miss blank (λ k. row_of_data k - 1) (λ k. get_or list k 0) j (words shape)
+        (λ k h e. let d = entry_row k h in ne (rw (sym_row k j e d) d))
         ∙ blank_zero j
       where
-        sym-row : (k j : ℕ) → j ≡ dataRow k - 1 → DataRow (before shape) (dataRow k) → suc j ≡ dataRow k
-        sym-row k j e d = let f = d.first in omega arith
+        sym_row : (k j : ℕ) → j ≡ row_of_data k - 1 → DataRow (before shape) (row_of_data k) → suc j ≡ row_of_data k
+        sym_row k j e d = let f = d.first in omega arith
 
     -- a data word that fits leaves a word that fits
-    pub data-lt : ((k : ℕ) → get_or list k 0 < 2 ^ 32) → (j : ℕ) → get_or (data_block shape list) j 0 < 2 ^ 32
+    pub data_lt : ((k : ℕ) → get_or list k 0 < 2 ^ 32) → (j : ℕ) → get_or (data_block shape list) j 0 < 2 ^ 32
     unfolding data_block
-    data-lt h = stores_all (λ w. w < 2 ^ 32) blank _ _ (words shape) (λ j. rw (blank_zero j) (pow_pos 32)) (λ k l. h k)
+    data_lt h = stores_all (λ w. w < 2 ^ 32) blank _ _ (words shape) (λ j. rw (blank_zero j) (pow_pos 32)) (λ k l. h k)

@@ -7,7 +7,7 @@ use native.Mathlib.Nat.{mul-le-mul_right}
 use native.Mathlib.Omega.{arith}
 use lib.ListN.{length, get_or, take}
 use Rattle.lane.specs.Rows.{power?, rows_where}
-use Rattle.lane.proofs.Rows.{row-passes, row-there, rows-rise, data_row, data_fails}
+use Rattle.lane.proofs.Rows.{row_passes, row_there, rows_rise, data_row, data_fails}
 use Rattle.ground.specs.Stores.{stores}
 use Rattle.ground.proofs.Stores.{stores_agree}
 use Rattle.shape.specs.declared.Shape.{Shape}
@@ -38,9 +38,9 @@ rows_table shape =
     let test : ℕ → Bool = λ p. not (power? (digits shape) p) in
     record {
       is = refl;
-      rising = rows-rise test (before shape);
-      rows = λ k h. let r = row-passes test (before shape) k h in data_row (digits shape) (before shape) _ (before_digits shape) r.0 r.1 r.2;
-      complete = λ p d. row-there test (before shape) p d.first d.last (data_fails (digits shape) (before shape) p d);
+      rising = rows_rise test (before shape);
+      rows = λ k h. let r = row_passes test (before shape) k h in data_row (digits shape) (before shape) _ (before_digits shape) r.0 r.1 r.2;
+      complete = λ p d. row_there test (before shape) p d.first d.last (data_fails (digits shape) (before shape) p d);
     }
 
 pub data_one_lem : DataTable One data_one
@@ -60,19 +60,19 @@ data_front Two = data_two_lem
 
 module _ {shape : Shape} {table : List ℕ} (t : DataTable shape table) where
   -- data words spread over the rows of this very table are the shape's data block
-  pub table-spread : (code list : List ℕ) {placed : List ℕ} → placed ≡ stores blank (λ k. get_or code k 0 - 1) (λ k. get_or list k 0) (length code)
+  pub table_spread : (code list : List ℕ) {placed : List ℕ} → placed ≡ stores blank (λ k. get_or code k 0 - 1) (λ k. get_or list k 0) (length code)
       → code ≡ table
       → placed ≡ data_block shape list
   unfolding data_block
-  table-spread code list e same =
+  table_spread code list e same =
       e
       ∙ ap (λ (l : List ℕ). stores blank (λ k. get_or l k 0 - 1) (λ k. get_or list k 0) (length l)) (same ∙ t.is)
       ∙ ap (stores blank (λ k. get_or (data_rows_of shape) k 0 - 1) (λ k. get_or list k 0)) (data_count shape)
 
   module _ (words : List ℕ) (at s : ℕ) (there : at + before shape * s < length words) where
     -- its rows are there where the last one is
-    pub table-there : (code : List ℕ) → code ≡ table → (k : ℕ) → k < length code → (1 ≤ get_or code k 0) × (at + (get_or code k 0 - 1) * s < length words)
-    table-there code same k h =
+    pub table_there : (code : List ℕ) → code ≡ table → (k : ℕ) → k < length code → (1 ≤ get_or code k 0) × (at + (get_or code k 0 - 1) * s < length words)
+    table_there code same k h =
         let d = t.rows k (rw same at h) in
         let p : get_or table k 0 - 1 ≤ before shape = omega (arith, d.last) in
         rw same (d.first, omega (arith, mul-le-mul_right s p))
@@ -84,12 +84,12 @@ module _ {shape : Shape} {table : List ℕ} (t : DataTable shape table) where
         ap (λ (k : ℕ). get_or words (at + k * s) 0) e ∙ placed_lies shape words at s (suc j) f (omega arith)
 
     -- and the words that lie there, copied to a buffer, are the shape's data
-    pub table-copied : (code buffer : List ℕ) {copied : List ℕ}
+    pub table_copied : (code buffer : List ℕ) {copied : List ℕ}
         → copied ≡ stores buffer (λ k. k) (λ k. get_or words (at + (get_or code k 0 - 1) * s) 0) (length code)
         → code ≡ table
         → CopiesData shape words at s buffer copied
     unfolding data_into
-    table-copied code buffer e same =
+    table_copied code buffer e same =
         let lies : ℕ → ℕ = λ k. row (get_or table k 0) (lying shape words at s) in
         record {
           there =

@@ -25,9 +25,9 @@ use Rattle.block.specs.Verdict.{said_by, to_say, verdict_of}
 use Rattle.sums.specs.Sums.{sums_of, doubtful}
 use Rattle.block.specs.Sums.{decision_in, lost_in, lost_as_in, odd_count, changed_in, Decides, MendsLanes}
 use Rattle.sums.proofs.WordBits.{number_same, bit_number}
-use Rattle.sums.proofs.Doubt.{odd-in, sum-in}
-use Rattle.block.proofs.Blocks.{AllKept, none_counted, kept-none, none_kept, mended-kept, changed-odd}
-use Rattle.block.proofs.Verdicts.{says-verdict}
+use Rattle.sums.proofs.Doubt.{odd_in_lem, sum_in_lem}
+use Rattle.block.proofs.Blocks.{AllKept, none_counted, kept_none, none_kept, mended_kept, changed_odd}
+use Rattle.block.proofs.Verdicts.{says_verdict}
 
 -- the bits changed count only where no lane is lost
 said_same : (lost : ℕ) (kinds : Kind → ℕ) (a b : ℕ) → (lost ≡ 0 → a ≡ b) → said_by lost kinds a ≡ said_by lost kinds b
@@ -39,43 +39,43 @@ module _ (shape : Shape) (block : List ℕ) where
   sums = sums_of shape block
 
   -- what is decided by them is what is decided of the lane
-  decision-in : (i : ℕ) → i < 32 → decision_in shape sums i ≡ decide (before shape) (lane i block)
-  decision-in i l = ap₂ (decision (before shape)) (odd-in shape block i l) (sum-in shape block i l)
+  decision_in_lem : (i : ℕ) → i < 32 → decision_in shape sums i ≡ decide (before shape) (lane i block)
+  decision_in_lem i l = ap₂ (decision (before shape)) (odd_in_lem shape block i l) (sum_in_lem shape block i l)
 
-  lost-same : lost_in shape sums ≡ lanes_lost shape block
+  lost_same : lost_in shape sums ≡ lanes_lost shape block
   unfolding lost_in lanes_lost
-  lost-same = total_same 32 _ _ (λ i h. ap (λ (d : Decision). pick (lost? d) 1) (decision-in i h))
+  lost_same = total_same 32 _ _ (λ i h. ap (λ (d : Decision). pick (lost? d) 1) (decision_in_lem i h))
 
-  kinds-same : lost_as_in shape sums ≡ lanes_lost_as shape block
+  kinds_same : lost_as_in shape sums ≡ lanes_lost_as shape block
   unfolding lost_as_in lanes_lost_as
-  kinds-same = λ t kind. total_same 32 _ _ (λ i h. ap (λ (d : Decision). pick (lost_as? kind d) 1) (decision-in i h)) t
+  kinds_same = λ t kind. total_same 32 _ _ (λ i h. ap (λ (d : Decision). pick (lost_as? kind d) 1) (decision_in_lem i h)) t
 
-  changed-same : changed_in shape sums block ≡ mended_lanes shape block
+  changed_same : changed_in shape sums block ≡ mended_lanes shape block
   unfolding changed_in mended_lanes
-  changed-same =
+  changed_same =
       list_of_same (length block) _ _
-      (λ j l. ap (bit_xor (get_or block j 0)) (number_same 32 _ _ (λ i h. ap (λ (d : Decision). changes d (suc j)) (decision-in i h))))
+      (λ j l. ap (bit_xor (get_or block j 0)) (number_same 32 _ _ (λ i h. ap (λ (d : Decision). changes d (suc j)) (decision_in_lem i h))))
 
   -- what is mended by them is the block with each lane mended
-  pub lanes-mended : {after given : List ℕ} → given ≡ sums → MendsLanes shape block given after → after ≡ mended_lanes shape block
-  lanes-mended are leaves = leaves ∙ ap (λ (l : List ℕ). changed_in shape l block) are ∙ changed-same
+  pub lanes_mended : {after given : List ℕ} → given ≡ sums → MendsLanes shape block given after → after ≡ mended_lanes shape block
+  lanes_mended are leaves = leaves ∙ ap (λ (l : List ℕ). changed_in shape l block) are ∙ changed_same
 
-  odd-same : odd_count sums ≡ total 32 (λ i. pick (odd (rows shape) (lane i block)) 1)
+  odd_same : odd_count sums ≡ total 32 (λ i. pick (odd (rows shape) (lane i block)) 1)
   unfolding odd_count
-  odd-same = total_same 32 _ _ (λ i h. ap (λ (b : Bool). pick b 1) (odd-in shape block i h))
+  odd_same = total_same 32 _ _ (λ i h. ap (λ (b : Bool). pick b 1) (odd_in_lem shape block i h))
 
   module _ (long : rows shape ≤ length block) where
     count_same : lanes_lost shape block ≡ 0 → odd_count sums ≡ bits_changed shape block (mended_block shape block)
     count_same none =
-        odd-same ∙ sym (changed-odd shape block long (none_kept shape block none)) ∙ ap (bits_changed shape block) (sym (mended-kept shape block none))
+        odd_same ∙ sym (changed_odd shape block long (none_kept shape block none)) ∙ ap (bits_changed shape block) (sym (mended_kept shape block none))
 
     -- what is decided by them is the verdict of the block
     pub decided : {v : Verdict} {given : List ℕ} → given ≡ sums → Decides shape given v → v ≡ verdict_of shape block
     unfolding to_say
     decided {v} are says =
-        says-verdict shape block {v = v}
+        says_verdict shape block {v = v}
         (says ∙ ap (λ (l : List ℕ). said_by (lost_in shape l) (lost_as_in shape l) (odd_count l)) are
-        ∙ ap₂ (λ (n : ℕ) (kinds : Kind → ℕ). said_by n kinds (odd_count sums)) lost-same kinds-same
+        ∙ ap₂ (λ (n : ℕ) (kinds : Kind → ℕ). said_by n kinds (odd_count sums)) lost_same kinds_same
         ∙ said_same (lanes_lost shape block) (lanes_lost_as shape block) (odd_count sums) (bits_changed shape block (mended_block shape block)) count_same)
 
     -- ---- no doubtful lane
@@ -95,11 +95,11 @@ module _ (shape : Shape) (block : List ℕ) where
       unfolding decision
       kept i h = ap lost? (unmoved i h)
 
-      pub clean-verdict : Clean ≡ verdict_of shape block
+      pub clean_verdict : Clean ≡ verdict_of shape block
       unfolding to_say
-      clean-verdict =
-          says-verdict shape block {v = Clean}
-          (ap₂ (λ (n c : ℕ). said_by n (lanes_lost_as shape block) c) (sym (kept-none shape block kept))
+      clean_verdict =
+          says_verdict shape block {v = Clean}
+          (ap₂ (λ (n c : ℕ). said_by n (lanes_lost_as shape block) c) (sym (kept_none shape block kept))
           (sym
-          (ap (bits_changed shape block) (mended-kept shape block (kept-none shape block kept)) ∙ changed-odd shape block long kept
+          (ap (bits_changed shape block) (mended_kept shape block (kept_none shape block kept)) ∙ changed_odd shape block long kept
           ∙ none_counted 32 (λ i. odd (rows shape) (lane i block)) (λ i h. (quiet i h).1))))

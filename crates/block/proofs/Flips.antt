@@ -70,40 +70,40 @@ module _ (last : ℕ) (digits block : List ℕ) where
   abbrev here : (ℕ → Bool) → ℕ → ℕ → Bool
   here lanes j i = lanes i && eqb (suc j) (row_named last (sum_in digits i))
 
-  pub flipped-same : (f g : ℕ → Bool) → ((i : ℕ) → i < 32 → f i ≡ g i) → flipped_in last digits f block ≡ flipped_in last digits g block
+  pub flipped_same : (f g : ℕ → Bool) → ((i : ℕ) → i < 32 → f i ≡ g i) → flipped_in last digits f block ≡ flipped_in last digits g block
   unfolding flipped_in
-  flipped-same f g e =
+  flipped_same f g e =
       list_of_same (length block) _ _
       (λ j h.
       ap (bit_xor (get_or block j 0))
       (number_same 32 (here f j) (here g j) (λ i l. ap (λ (b : Bool). b && eqb (suc j) (row_named last (sum_in digits i))) (e i l))))
 
-  pub flipped-none : block ≡ flipped_in last digits (λ i. false) block
+  pub flipped_none : block ≡ flipped_in last digits (λ i. false) block
   unfolding flipped_in
-  flipped-none = list_is (length block) block _ refl (λ j l. sym (ap (bit_xor (get_or block j 0)) word_none ∙ xor_zero_r (get_or block j 0)))
+  flipped_none = list_is (length block) block _ refl (λ j l. sym (ap (bit_xor (get_or block j 0)) word_none ∙ xor_zero_r (get_or block j 0)))
 
   module _ (lanes : ℕ → Bool) (i : ℕ) (hi : i < 32) (off : lanes i ≡ false) where
     abbrev more : ℕ → Bool
     more k = lanes k ⊕ eqb k i
 
-    lane-there : (j : ℕ) → suc j ≡ row_named last (sum_in digits i) → (k : ℕ) → here lanes j k ⊕ eqb k i ≡ here more j k
-    lane-there j e k =
+    lane_there : (j : ℕ) → suc j ≡ row_named last (sum_in digits i) → (k : ℕ) → here lanes j k ⊕ eqb k i ≡ here more j k
+    lane_there j e k =
         by_cases (ℕ_discrete k i)
         (λ q. rw q (rw (off, eq-eqb i i refl, eq-eqb (suc j) (row_named last (sum_in digits i)) e)))
         (λ ne. rw (ne_eqb k i ne, ⊕-zero (lanes k), ⊕-zero (here lanes j k)))
 
-    lane-elsewhere : (j : ℕ) → (suc j ≡ row_named last (sum_in digits i) → ⊥) → (k : ℕ) → here lanes j k ≡ here more j k
-    lane-elsewhere j ne k =
+    lane_elsewhere : (j : ℕ) → (suc j ≡ row_named last (sum_in digits i) → ⊥) → (k : ℕ) → here lanes j k ≡ here more j k
+    lane_elsewhere j ne k =
         by_cases (ℕ_discrete k i)
         (λ q. rw q (rw (off, eq-eqb i i refl, ne_eqb (suc j) (row_named last (sum_in digits i)) ne)))
         (λ nq. rw (ne_eqb k i nq, ⊕-zero (lanes k)))
 
     -- flipping the bit of lane i in the row that its sum names adds that lane
-    pub flip-more : (p : ℕ) → p ≡ row_named last (sum_in digits i) → 1 ≤ p
+    pub flip_more : (p : ℕ) → p ≡ row_named last (sum_in digits i) → 1 ≤ p
         → set (flipped_in last digits lanes block) (p - 1) (bit_xor (get_or (flipped_in last digits lanes block) (p - 1) 0) (2 ^ i))
         ≡ flipped_in last digits (λ k. lanes k ⊕ eqb k i) block
     unfolding flipped_in
-    flip-more p e l =
+    flip_more p e l =
         list_is (length block) _ _ (length-set (flipped_in last digits lanes block) (p - 1) _ ∙ length_list_of (length block) _)
         (λ j b.
         by_cases (ℕ_discrete j (p - 1))
@@ -113,12 +113,12 @@ module _ (last : ℕ) (digits block : List ℕ) where
         ∙ ap (λ (x : ℕ). bit_xor x (2 ^ i)) (get_or_list_of (length block) _ (p - 1) (omega arith))
         ∙ xor_assoc (get_or block (p - 1) 0) (word (here lanes (p - 1))) (2 ^ i)
         ∙ ap (bit_xor (get_or block (p - 1) 0))
-        (word_flip (here lanes (p - 1)) i hi ∙ number_same 32 _ _ (λ k r. lane-there (p - 1) (let z : suc (p - 1) ≡ p = omega arith in z ∙ e) k))))
+        (word_flip (here lanes (p - 1)) i hi ∙ number_same 32 _ _ (λ k r. lane_there (p - 1) (let z : suc (p - 1) ≡ p = omega arith in z ∙ e) k))))
         (λ nq.
         get_or-set_other (flipped_in last digits lanes block) (p - 1) j _ 0 nq
         ∙ get_or_list_of (length block) _ j b
         ∙ ap (bit_xor (get_or block j 0))
-        (number_same 32 (here lanes j) (here more j) (λ k r. lane-elsewhere j (λ z. nq (let y : suc j ≡ p = z ∙ sym e in omega arith)) k))))
+        (number_same 32 (here lanes j) (here more j) (λ k r. lane_elsewhere j (λ z. nq (let y : suc j ≡ p = z ∙ sym e in omega arith)) k))))
 
 -- the word with a one in lane i alone
 pub one_lane : (i : ℕ) → i < 32 → (1 * 2 ^ i) % 2 ^ 32 ≡ 2 ^ i
@@ -132,30 +132,30 @@ named_there last (suc sum) l h s = rw (eqb-suc-zero sum) (omega arith, omega ari
 -- ---- a turn of the loop: some lanes are left, and the lowest of them is flipped
 
 module _ (last : ℕ) (digits block : List ℕ) (lanes : ℕ) where
-  abbrev pub doneBut : ℕ → List ℕ
-  doneBut left = flipped_in last digits (λ k. bit k lanes && not (bit k left)) block
+  abbrev pub done_but : ℕ → List ℕ
+  done_but left = flipped_in last digits (λ k. bit k lanes && not (bit k left)) block
 
-  pub none_done : block ≡ doneBut lanes
-  none_done = flipped-none last digits block ∙ flipped-same last digits block _ _ (λ i l. none (bit i lanes))
+  pub none_done : block ≡ done_but lanes
+  none_done = flipped_none last digits block ∙ flipped_same last digits block _ _ (λ i l. none (bit i lanes))
     where
       none : (b : Bool) → false ≡ (b && not b)
       none true = refl
       none false = refl
 
-  pub all_done : doneBut 0 ≡ flipped_in last digits (λ k. bit k lanes) block
-  all_done = flipped-same last digits block _ _ (λ i l. rw (bit_zero i) (and-true (bit i lanes)))
+  pub all_done : done_but 0 ≡ flipped_in last digits (λ k. bit k lanes) block
+  all_done = flipped_same last digits block _ _ (λ i l. rw (bit_zero i) (and-true (bit i lanes)))
 
   module _ (left i : ℕ) (hi : i < 32) (on : bit i left ≡ true) (within : (k : ℕ) → bit k left ≡ true → bit k lanes ≡ true) where
-    pub next-within : (k : ℕ) → bit k (bit_xor left (2 ^ i)) ≡ true → bit k lanes ≡ true
-    next-within k e =
+    pub next_within : (k : ℕ) → bit k (bit_xor left (2 ^ i)) ≡ true → bit k lanes ≡ true
+    next_within k e =
         by_cases (ℕ_discrete k i) (λ q. rw q (within i on))
         (λ ne. within k (sym (bit_cleared left i k ∙ ap (λ (b : Bool). bit k left ⊕ b) (ne_eqb k i ne) ∙ ⊕-zero (bit k left)) ∙ e))
 
-    pub next-done : (p : ℕ) → p ≡ row_named last (sum_in digits i) → 1 ≤ p
-        → set (doneBut left) (p - 1) (bit_xor (get_or (doneBut left) (p - 1) 0) (2 ^ i)) ≡ doneBut (bit_xor left (2 ^ i))
-    next-done p e l =
-        flip-more last digits block (λ k. bit k lanes && not (bit k left)) i hi (rw (on, within i on)) p e l
-        ∙ flipped-same last digits block _ _
+    pub next_done : (p : ℕ) → p ≡ row_named last (sum_in digits i) → 1 ≤ p
+        → set (done_but left) (p - 1) (bit_xor (get_or (done_but left) (p - 1) 0) (2 ^ i)) ≡ done_but (bit_xor left (2 ^ i))
+    next_done p e l =
+        flip_more last digits block (λ k. bit k lanes && not (bit k left)) i hi (rw (on, within i on)) p e l
+        ∙ flipped_same last digits block _ _
         (λ k r.
         rw bit_cleared
         (by_cases (ℕ_discrete k i)

@@ -28,8 +28,8 @@ use Rattle.block.specs.Sums.{decision_in, lost_in, lost_as_in, odd_count, change
 use Rattle.sums.specs.Inner.{any_of}
 use Rattle.block.specs.Inner.{above_of, lost_lanes, naming_lanes, row_named, flipped_in}
 use Rattle.sums.proofs.WordBits.{number_same}
-use Rattle.sums.proofs.Doubt.{bit-any}
-use Rattle.block.proofs.Lanes.{bit-above, lost_test, lost_test_lem, ones_total}
+use Rattle.sums.proofs.Doubt.{bit_any}
+use Rattle.block.proofs.Lanes.{bit_above, lost_test, lost_test_lem, ones_total}
 use Rattle.block.proofs.Blocks.{counted_none, none_counted}
 
 -- a word with no ones is 0
@@ -78,68 +78,68 @@ module _ (shape : Shape) (sums : List ℕ) where
   abbrev parity : ℕ
   parity = get_or sums 7 0
 
-  abbrev lostAs : Kind → ℕ
-  lostAs = lost_lanes m parity sums
+  abbrev lost_as : Kind → ℕ
+  lost_as = lost_lanes m parity sums
 
-  abbrev lostWord : ℕ
-  lostWord = bit_or (lostAs even) (lostAs beyond)
+  abbrev lost_word : ℕ
+  lost_word = bit_or (lost_as even) (lost_as beyond)
 
   lane_above : (i : ℕ) → bit i (above_of m 7 sums) ≡ ltb m (sum_in sums i)
-  lane_above i = bit-above i sums m 7 ∙ ap (λ (x : ℕ). ltb x (sum_in sums i)) (mod-eq_of_lt (before_small shape))
+  lane_above i = bit_above i sums m 7 ∙ ap (λ (x : ℕ). ltb x (sum_in sums i)) (mod-eq_of_lt (before_small shape))
 
   module _ (hp : parity < 2 ^ 32) (ha : any_of 7 sums < 2 ^ 32) where
-    lane-tested : (kind : Kind) (i : ℕ) → i < 32 → bit i (lostAs kind) ≡ lost_test kind m (odd_in sums i) (sum_in sums i)
-    lane-tested even i hi = bit_of_and i (any_of 7 sums) ((2 ^ 32 - 1) - parity) ∙ ap₂ ◌&&◌ (bit-any i sums 7) (bit_not 32 i parity hi hp)
-    lane-tested beyond i hi = bit_of_and i parity (above_of m 7 sums) ∙ ap (λ (b : Bool). bit i parity && b) (lane_above i)
+    lane_tested : (kind : Kind) (i : ℕ) → i < 32 → bit i (lost_as kind) ≡ lost_test kind m (odd_in sums i) (sum_in sums i)
+    lane_tested even i hi = bit_of_and i (any_of 7 sums) ((2 ^ 32 - 1) - parity) ∙ ap₂ ◌&&◌ (bit_any i sums 7) (bit_not 32 i parity hi hp)
+    lane_tested beyond i hi = bit_of_and i parity (above_of m 7 sums) ∙ ap (λ (b : Bool). bit i parity && b) (lane_above i)
 
-    lane-lost-as : (kind : Kind) (i : ℕ) → i < 32 → bit i (lostAs kind) ≡ lost_as? kind (decision_in shape sums i)
-    lane-lost-as kind i hi = lane-tested kind i hi ∙ lost_test_lem kind m (odd_in sums i) (sum_in sums i)
+    lane_lost_as : (kind : Kind) (i : ℕ) → i < 32 → bit i (lost_as kind) ≡ lost_as? kind (decision_in shape sums i)
+    lane_lost_as kind i hi = lane_tested kind i hi ∙ lost_test_lem kind m (odd_in sums i) (sum_in sums i)
 
-    lane-lost : (i : ℕ) → i < 32 → bit i lostWord ≡ lost? (decision_in shape sums i)
-    lane-lost i hi =
-        bit_of_or i (lostAs even) (lostAs beyond)
-        ∙ ap₂ ◌||◌ (lane-lost-as even i hi) (lane-lost-as beyond i hi)
+    lane_lost : (i : ℕ) → i < 32 → bit i lost_word ≡ lost? (decision_in shape sums i)
+    lane_lost i hi =
+        bit_of_or i (lost_as even) (lost_as beyond)
+        ∙ ap₂ ◌||◌ (lane_lost_as even i hi) (lane_lost_as beyond i hi)
         ∙ either_kind (decision_in shape sums i)
 
-    pub lost-as-lt : (kind : Kind) → lostAs kind < 2 ^ 32
-    lost-as-lt even = omega (arith, and_le_l (any_of 7 sums) ((2 ^ 32 - 1) - parity))
-    lost-as-lt beyond = omega (arith, and_le_l parity (above_of m 7 sums))
+    pub lost_as_lt : (kind : Kind) → lost_as kind < 2 ^ 32
+    lost_as_lt even = omega (arith, and_le_l (any_of 7 sums) ((2 ^ 32 - 1) - parity))
+    lost_as_lt beyond = omega (arith, and_le_l parity (above_of m 7 sums))
 
-    lost-lt : lostWord < 2 ^ 32
-    lost-lt = or_lt 32 (lostAs even) (lostAs beyond) (lost-as-lt even) (lost-as-lt beyond)
+    lost_lt : lost_word < 2 ^ 32
+    lost_lt = or_lt 32 (lost_as even) (lost_as beyond) (lost_as_lt even) (lost_as_lt beyond)
 
-    kind-count : (kind : Kind) → ones (lostAs kind) ≡ lost_as_in shape sums kind
+    kind_count : (kind : Kind) → ones (lost_as kind) ≡ lost_as_in shape sums kind
     unfolding lost_as_in
-    kind-count kind =
-        ones_total 32 (lostAs kind) (lost-as-lt kind) ∙ total_same 32 _ _ (λ i hi. ap (λ (b : Bool). pick b 1) (lane-lost-as kind i hi))
+    kind_count kind =
+        ones_total 32 (lost_as kind) (lost_as_lt kind) ∙ total_same 32 _ _ (λ i hi. ap (λ (b : Bool). pick b 1) (lane_lost_as kind i hi))
 
-    lost-count : ones lostWord ≡ lost_in shape sums
+    lost_count : ones lost_word ≡ lost_in shape sums
     unfolding lost_in
-    lost-count = ones_total 32 lostWord lost-lt ∙ total_same 32 _ _ (λ i hi. ap (λ (b : Bool). pick b 1) (lane-lost i hi))
+    lost_count = ones_total 32 lost_word lost_lt ∙ total_same 32 _ _ (λ i hi. ap (λ (b : Bool). pick b 1) (lane_lost i hi))
 
-    odd-count : ones parity ≡ odd_count sums
+    odd_count_lem : ones parity ≡ odd_count sums
     unfolding odd_count
-    odd-count = ones_total 32 parity hp
+    odd_count_lem = ones_total 32 parity hp
 
     -- ---- what is said
 
-    pub lost-decides : (lostWord ≡ 0 → ⊥) → Decides shape sums (Lost (ones (lostAs even)) (ones (lostAs beyond)))
-    lost-decides some =
-        ap₂ (λ (e b : ℕ). said_of (Lost e b)) (kind-count even) (kind-count beyond)
-        ∙ said_lost (lost_in shape sums) (lost_as_in shape sums) (odd_count sums) (λ z. some (no_ones lostWord lost-lt (lost-count ∙ z)))
+    pub lost_decides : (lost_word ≡ 0 → ⊥) → Decides shape sums (Lost (ones (lost_as even)) (ones (lost_as beyond)))
+    lost_decides some =
+        ap₂ (λ (e b : ℕ). said_of (Lost e b)) (kind_count even) (kind_count beyond)
+        ∙ said_lost (lost_in shape sums) (lost_as_in shape sums) (odd_count sums) (λ z. some (no_ones lost_word lost_lt (lost_count ∙ z)))
 
-    module _ (no-lost : lostWord ≡ 0) where
+    module _ (no-lost : lost_word ≡ 0) where
       none : lost_in shape sums ≡ 0
-      none = sym lost-count ∙ ap ones no-lost ∙ none_ones
+      none = sym lost_count ∙ ap ones no-lost ∙ none_ones
 
-      pub mended-decides : (parity ≡ 0 → ⊥) → Decides shape sums (Mended (ones parity))
-      mended-decides some =
-          ap (λ (n : ℕ). said_of (Mended n)) odd-count
-          ∙ said_mended (odd_count sums) (lost_as_in shape sums) (λ z. some (no_ones parity hp (odd-count ∙ z)))
+      pub mended_decides : (parity ≡ 0 → ⊥) → Decides shape sums (Mended (ones parity))
+      mended_decides some =
+          ap (λ (n : ℕ). said_of (Mended n)) odd_count_lem
+          ∙ said_mended (odd_count sums) (lost_as_in shape sums) (λ z. some (no_ones parity hp (odd_count_lem ∙ z)))
           ∙ ap (λ (n : ℕ). said_by n (lost_as_in shape sums) (odd_count sums)) (sym none)
 
-      pub clean-decides : parity ≡ 0 → Decides shape sums Clean
-      clean-decides z = ap₂ (λ (n c : ℕ). said_by n (lost_as_in shape sums) c) (sym none) (sym (sym odd-count ∙ ap ones z ∙ none_ones))
+      pub clean_decides : parity ≡ 0 → Decides shape sums Clean
+      clean_decides z = ap₂ (λ (n c : ℕ). said_by n (lost_as_in shape sums) c) (sym none) (sym (sym odd_count_lem ∙ ap ones z ∙ none_ones))
 
   -- ---- what is mended
 
@@ -147,24 +147,24 @@ module _ (shape : Shape) (sums : List ℕ) where
     abbrev naming : ℕ
     naming = naming_lanes m parity sums
 
-    lane-naming : (i : ℕ) → i < 32 → bit i naming ≡ odd_in sums i && not (ltb m (sum_in sums i))
-    lane-naming i hi =
+    lane_naming : (i : ℕ) → i < 32 → bit i naming ≡ odd_in sums i && not (ltb m (sum_in sums i))
+    lane_naming i hi =
         bit_of_and i parity ((2 ^ 32 - 1) - above_of m 7 sums)
         ∙ ap (λ (b : Bool). bit i parity && b) (bit_not 32 i (above_of m 7 sums) hi fits ∙ ap not (lane_above i))
 
     -- the sum of such a lane is below the rows
-    pub named-low : (i : ℕ) → i < 32 → bit i naming ≡ true → sum_in sums i < rows shape
-    named-low i hi e =
-        let low = (both (odd_in sums i) (not (ltb m (sum_in sums i))) (sym (lane-naming i hi) ∙ e)).1 in
+    pub named_low : (i : ℕ) → i < 32 → bit i naming ≡ true → sum_in sums i < rows shape
+    named_low i hi e =
+        let low = (both (odd_in sums i) (not (ltb m (sum_in sums i))) (sym (lane_naming i hi) ∙ e)).1 in
         omega (arith, ltb-false m (sum_in sums i) (not-true (ltb m (sum_in sums i)) low))
 
-    pub mends-lanes : (block : List ℕ) → MendsLanes shape block sums (flipped_in (rows shape) sums (λ i. bit i naming) block)
+    pub mends_lanes : (block : List ℕ) → MendsLanes shape block sums (flipped_in (rows shape) sums (λ i. bit i naming) block)
     unfolding flipped_in changed_in
-    mends-lanes block =
+    mends_lanes block =
         list_of_same (length block) _ _
         (λ j h.
         ap (bit_xor (get_or block j 0))
         (number_same 32 _ _
         (λ i hi.
-        ap (λ (b : Bool). b && eqb (suc j) (row_named (rows shape) (sum_in sums i))) (lane-naming i hi)
+        ap (λ (b : Bool). b && eqb (suc j) (row_named (rows shape) (sum_in sums i))) (lane_naming i hi)
         ∙ changes_named m (odd_in sums i) (sum_in sums i) (suc j))))

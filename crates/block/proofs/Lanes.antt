@@ -26,8 +26,8 @@ module _ (i : ℕ) (digits : List ℕ) where
   low k = number k (λ j. bit i (get_or digits j 0))
 
   -- comparing numbers of one digit more
-  compare-more : (w x y : ℕ) (a b : Bool) → x < w → y < w → cond a (ltb x y && b) (ltb x y || b) ≡ ltb (x + pick a w) (y + pick b w)
-  compare-more w x y a b hx hy = go a b (ltb x y) refl
+  compare_more : (w x y : ℕ) (a b : Bool) → x < w → y < w → cond a (ltb x y && b) (ltb x y || b) ≡ ltb (x + pick a w) (y + pick b w)
+  compare_more w x y a b hx hy = go a b (ltb x y) refl
     where
       go : (a b t : Bool) → ltb x y ≡ t → cond a (t && b) (t || b) ≡ ltb (x + pick a w) (y + pick b w)
       go true true true e = let h = ltb-true x y e in sym (lt-ltb (x + w) (y + w) (omega arith))
@@ -39,31 +39,31 @@ module _ (i : ℕ) (digits : List ℕ) where
       go false false true e = let h = ltb-true x y e in sym (lt-ltb (x + 0) (y + 0) (omega arith))
       go false false false e = let h = ltb-false x y e in sym (le-ltb (x + 0) (y + 0) (omega arith))
 
-  digit-pick : (d w : ℕ) → d < 2 → d * w ≡ pick (set? d) w
-  digit-pick zero w h = omega (arith, native.Mathlib.Nat.zero-mul w)
-  digit-pick (suc zero) w h = omega (arith, native.Mathlib.Nat.one-mul w)
-  digit-pick (suc (suc d)) w h = absurd (omega arith)
+  digit_pick : (d w : ℕ) → d < 2 → d * w ≡ pick (set? d) w
+  digit_pick zero w h = omega (arith, native.Mathlib.Nat.zero-mul w)
+  digit_pick (suc zero) w h = omega (arith, native.Mathlib.Nat.one-mul w)
+  digit_pick (suc (suc d)) w h = absurd (omega arith)
 
-  mod-more : (n k : ℕ) → n % 2 ^ suc k ≡ n % 2 ^ k + pick (bit k n) (2 ^ k)
-  mod-more n k =
+  mod_more : (n k : ℕ) → n % 2 ^ suc k ≡ n % 2 ^ k + pick (bit k n) (2 ^ k)
+  mod_more n k =
       let e : suc k ≡ 1 + k = omega arith in
       ap (λ (j : ℕ). n % 2 ^ j) e ∙ mod-pow-add n 1 k
-      ∙ omega (arith, digit-pick (n / 2 ^ k % 2) (2 ^ k) (omega arith), ap (λ (b : Bool). pick b (2 ^ k)) (bit_shift k n))
+      ∙ omega (arith, digit_pick (n / 2 ^ k % 2) (2 ^ k) (omega arith), ap (λ (b : Bool). pick b (2 ^ k)) (bit_shift k n))
 
-  cond-bit : (b : Bool) (x y : ℕ) → bit i (cond b x y) ≡ cond b (bit i x) (bit i y)
-  cond-bit true x y = refl
-  cond-bit false x y = refl
+  cond_bit : (b : Bool) (x y : ℕ) → bit i (cond b x y) ≡ cond b (bit i x) (bit i y)
+  cond_bit true x y = refl
+  cond_bit false x y = refl
 
-  pub bit-above : (top k : ℕ) → bit i (above_of top k digits) ≡ ltb (top % 2 ^ k) (low k)
+  pub bit_above : (top k : ℕ) → bit i (above_of top k digits) ≡ ltb (top % 2 ^ k) (low k)
   unfolding above_of number
-  bit-above top zero = bit_zero i ∙ sym (le-ltb (top % 1) 0 (omega arith))
-  bit-above top (suc k) =
-      cond-bit (bit k top) (bit_and (above_of top k digits) (get_or digits k 0)) (bit_or (above_of top k digits) (get_or digits k 0))
+  bit_above top zero = bit_zero i ∙ sym (le-ltb (top % 1) 0 (omega arith))
+  bit_above top (suc k) =
+      cond_bit (bit k top) (bit_and (above_of top k digits) (get_or digits k 0)) (bit_or (above_of top k digits) (get_or digits k 0))
       ∙ ap₂ (λ (x y : Bool). cond (bit k top) x y)
-      (bit_of_and i (above_of top k digits) (get_or digits k 0) ∙ ap (λ (b : Bool). b && bit i (get_or digits k 0)) (bit-above top k))
-      (bit_of_or i (above_of top k digits) (get_or digits k 0) ∙ ap (λ (b : Bool). b || bit i (get_or digits k 0)) (bit-above top k))
-      ∙ compare-more (2 ^ k) (top % 2 ^ k) (low k) (bit k top) (bit i (get_or digits k 0)) (mod-lt top (pow_pos k)) (number_lt k _)
-      ∙ ap (λ (x : ℕ). ltb x (low k + pick (bit i (get_or digits k 0)) (2 ^ k))) (sym (mod-more top k))
+      (bit_of_and i (above_of top k digits) (get_or digits k 0) ∙ ap (λ (b : Bool). b && bit i (get_or digits k 0)) (bit_above top k))
+      (bit_of_or i (above_of top k digits) (get_or digits k 0) ∙ ap (λ (b : Bool). b || bit i (get_or digits k 0)) (bit_above top k))
+      ∙ compare_more (2 ^ k) (top % 2 ^ k) (low k) (bit k top) (bit i (get_or digits k 0)) (mod-lt top (pow_pos k)) (number_lt k _)
+      ∙ ap (λ (x : ℕ). ltb x (low k + pick (bit i (get_or digits k 0)) (2 ^ k))) (sym (mod_more top k))
 
 -- above 15 are the numbers with a digit from 4 on, above 71 those from 64 on with one more from digit 3 on
 pub above_one : (digits : List ℕ) → above_of 15 7 digits ≡ bit_or (bit_or (get_or digits 4 0) (get_or digits 5 0)) (get_or digits 6 0)

@@ -14,7 +14,7 @@ use borrow.Author.Rules.{rules}
 use Rattle.lane.specs.Lane.{odd}
 use Rattle.lane.specs.Decision.{Kind, even, beyond, decide, decision, lost?, changes}
 use Rattle.lane.proofs.Bits.{pick_one}
-use Rattle.lane.proofs.TwoKinds.{one_kind, never-beyond}
+use Rattle.lane.proofs.TwoKinds.{one_kind, never_beyond}
 use Rattle.ground.proofs.Totals.{total_same, total_add, total_few}
 use Rattle.shape.specs.declared.Shape.{Shape}
 use Rattle.shape.specs.declared.Shape.TheVariants.{One}
@@ -25,7 +25,7 @@ use Rattle.sums.specs.Words.{lane}
 use Rattle.block.specs.Block.{lanes_lost, lanes_lost_as, bits_changed, mended_block}
 use Rattle.block.specs.Verdict.{verdict_number, verdict_count, verdict_beyond, said_of, verdict, verdict_of}
 use Rattle.block.specs.contracts.Verdict.{the_type}
-use Rattle.block.proofs.Blocks.{none_counted, counted_none, none_kept, mended-kept, mended-lost, unchanged-lanes, changed-odd}
+use Rattle.block.proofs.Blocks.{none_counted, counted_none, none_kept, mended_kept, mended_lost, unchanged_lanes, changed_odd}
 
 -- ---- by the variants that a test of the code leaves: clean is 0, mended 1, lost 2
 
@@ -39,15 +39,15 @@ NotMended v = OneOf (0 ∷ 2 ∷ []) (tag_of the_type v)
 
 module _ (kinds : Kind → ℕ) where
   -- lost: some lane is
-  some-lost : (lost changed e b : ℕ) → verdict lost kinds changed ≡ Lost e b → lost ≡ 0 → ⊥
-  some-lost zero zero e b says z = let w : ◌≡◌ {A = ℕ} 0 1 = cc in omega arith
-  some-lost zero (suc changed) e b says z = let w : ◌≡◌ {A = ℕ} 0 1 = cc in omega arith
-  some-lost (suc lost) changed e b says z = omega arith
+  some_lost : (lost changed e b : ℕ) → verdict lost kinds changed ≡ Lost e b → lost ≡ 0 → ⊥
+  some_lost zero zero e b says z = let w : ◌≡◌ {A = ℕ} 0 1 = cc in omega arith
+  some_lost zero (suc changed) e b says z = let w : ◌≡◌ {A = ℕ} 0 1 = cc in omega arith
+  some_lost (suc lost) changed e b says z = omega arith
 
   -- mended: none is
-  none-mended : (lost changed m : ℕ) → verdict lost kinds changed ≡ Mended m → lost ≡ 0
-  none-mended zero changed m says = refl
-  none-mended (suc lost) changed m says = let w : ◌≡◌ {A = ℕ} 0 1 = cc in absurd (omega arith)
+  none_mended : (lost changed m : ℕ) → verdict lost kinds changed ≡ Mended m → lost ≡ 0
+  none_mended zero changed m says = refl
+  none_mended (suc lost) changed m says = let w : ◌≡◌ {A = ℕ} 0 1 = cc in absurd (omega arith)
 
   -- not lost: no lane is
   none_lost : (lost changed : ℕ) → NotLost (verdict lost kinds changed) → lost ≡ 0
@@ -55,37 +55,37 @@ module _ (kinds : Kind → ℕ) where
   none_lost (suc lost) changed keys = absurd (miss (0 ∷ 1 ∷ []) 2 tt keys)
 
   -- not mended: where no lane is lost no bit changed
-  none-changed : (lost changed : ℕ) → NotMended (verdict lost kinds changed) → lost ≡ 0 → changed ≡ 0
-  none-changed zero zero keys e = refl
-  none-changed zero (suc changed) keys e = absurd (miss (0 ∷ 2 ∷ []) 1 tt keys)
-  none-changed (suc lost) changed keys e = absurd (omega arith)
+  none_changed : (lost changed : ℕ) → NotMended (verdict lost kinds changed) → lost ≡ 0 → changed ≡ 0
+  none_changed zero zero keys e = refl
+  none_changed zero (suc changed) keys e = absurd (miss (0 ∷ 2 ∷ []) 1 tt keys)
+  none_changed (suc lost) changed keys e = absurd (omega arith)
 
   -- ---- its number and its counts
 
-  pub three-lost : (lost changed : ℕ) → verdict_number (verdict lost kinds changed) ≡ 3 → lost ≡ 0 → ⊥
-  three-lost zero zero e z = omega arith
-  three-lost zero (suc changed) e z = omega arith
-  three-lost (suc lost) changed e z = omega arith
+  pub three_lost : (lost changed : ℕ) → verdict_number (verdict lost kinds changed) ≡ 3 → lost ≡ 0 → ⊥
+  three_lost zero zero e z = omega arith
+  three_lost zero (suc changed) e z = omega arith
+  three_lost (suc lost) changed e z = omega arith
 
-  pub lost-three : (lost changed : ℕ) → (lost ≡ 0 → ⊥) → said_of (verdict lost kinds changed) ≡ said_of (Lost (kinds even) (kinds beyond))
-  lost-three zero changed ne = absurd (ne refl)
-  lost-three (suc lost) changed ne = refl
+  pub lost_three : (lost changed : ℕ) → (lost ≡ 0 → ⊥) → said_of (verdict lost kinds changed) ≡ said_of (Lost (kinds even) (kinds beyond))
+  lost_three zero changed ne = absurd (ne refl)
+  lost_three (suc lost) changed ne = refl
 
-  pub kept-count : (lost changed : ℕ) → (verdict_number (verdict lost kinds changed) ≡ 3 → ⊥)
+  pub kept_count : (lost changed : ℕ) → (verdict_number (verdict lost kinds changed) ≡ 3 → ⊥)
       → (lost ≡ 0) × (verdict_count (verdict lost kinds changed) ≡ changed) × (verdict_beyond (verdict lost kinds changed) ≡ 0)
-  kept-count zero zero ne = (refl, refl, refl)
-  kept-count zero (suc changed) ne = (refl, refl, refl)
-  kept-count (suc lost) changed ne = absurd (ne refl)
+  kept_count zero zero ne = (refl, refl, refl)
+  kept_count zero (suc changed) ne = (refl, refl, refl)
+  kept_count (suc lost) changed ne = absurd (ne refl)
 
-  pub clean-none : (lost changed : ℕ) → verdict_number (verdict lost kinds changed) ≡ 1 → (lost ≡ 0) × (changed ≡ 0)
-  clean-none zero zero e = (refl, refl)
-  clean-none zero (suc changed) e = absurd (omega arith)
-  clean-none (suc lost) changed e = absurd (omega arith)
+  pub clean_none : (lost changed : ℕ) → verdict_number (verdict lost kinds changed) ≡ 1 → (lost ≡ 0) × (changed ≡ 0)
+  clean_none zero zero e = (refl, refl)
+  clean_none zero (suc changed) e = absurd (omega arith)
+  clean_none (suc lost) changed e = absurd (omega arith)
 
-  pub none-clean : (lost changed : ℕ) → lost ≡ 0 → changed ≡ 0 → verdict_number (verdict lost kinds changed) ≡ 1
-  none-clean zero zero l c = refl
-  none-clean zero (suc changed) l c = absurd (omega arith)
-  none-clean (suc lost) changed l c = absurd (omega arith)
+  pub none_clean : (lost changed : ℕ) → lost ≡ 0 → changed ≡ 0 → verdict_number (verdict lost kinds changed) ≡ 1
+  none_clean zero zero l c = refl
+  none_clean zero (suc changed) l c = absurd (omega arith)
+  none_clean (suc lost) changed l c = absurd (omega arith)
 
   -- its two counts together
   abbrev counted : ℕ → ℕ → ℕ
@@ -93,10 +93,10 @@ module _ (kinds : Kind → ℕ) where
 
   module _ (most : ℕ) where
     -- are no more than there are lanes
-    few-counted : (lost changed : ℕ) → kinds even + kinds beyond ≡ lost → lost ≤ most → (lost ≡ 0 → changed ≤ most) → counted lost changed ≤ most
-    few-counted zero zero k l c = omega arith
-    few-counted zero (suc changed) k l c = omega (arith, c refl)
-    few-counted (suc lost) changed k l c = omega arith
+    few_counted : (lost changed : ℕ) → kinds even + kinds beyond ≡ lost → lost ≤ most → (lost ≡ 0 → changed ≤ most) → counted lost changed ≤ most
+    few_counted zero zero k l c = omega arith
+    few_counted zero (suc changed) k l c = omega (arith, c refl)
+    few_counted (suc lost) changed k l c = omega arith
 
     -- and something, where it is not clean
     pub counts : (lost changed : ℕ) → kinds even + kinds beyond ≡ lost → lost ≤ most → (lost ≡ 0 → changed ≤ most)
@@ -107,10 +107,10 @@ module _ (kinds : Kind → ℕ) where
     counts (suc lost) changed k l c ne = (omega arith, omega arith)
 
   -- the second is of lanes lost beyond the rows
-  beyond-within : (lost changed : ℕ) → kinds beyond ≡ 0 → verdict_beyond (verdict lost kinds changed) ≡ 0
-  beyond-within zero zero e = refl
-  beyond-within zero (suc changed) e = refl
-  beyond-within (suc lost) changed e = e
+  beyond_within : (lost changed : ℕ) → kinds beyond ≡ 0 → verdict_beyond (verdict lost kinds changed) ≡ 0
+  beyond_within zero zero e = refl
+  beyond_within zero (suc changed) e = refl
+  beyond_within (suc lost) changed e = e
 
 -- a verdict in the code has numbers of 32 bits
 pub count_fits : (v : Verdict) (vs : List Val) → Is (row the_type) v vs → Fits w32 (verdict_count v) × Fits w32 (verdict_beyond v)
@@ -132,20 +132,20 @@ kinds_lost shape block = total_add 32 _ _ ∙ total_same 32 _ _ (λ i h. one_kin
 -- in shape 1 none is lost beyond the rows: they are 16, and so no sum is
 pub none_beyond : (block : List ℕ) → lanes_lost_as One block beyond ≡ 0
 unfolding lanes_lost_as
-none_beyond block = none_counted 32 _ (λ i h. never-beyond 15 (lane i block) 4 refl)
+none_beyond block = none_counted 32 _ (λ i h. never_beyond 15 (lane i block) 4 refl)
 
 pub beyond_one : (block : List ℕ) → verdict_beyond (verdict_of One block) ≡ 0
 unfolding verdict_of
-beyond_one block = beyond-within (lanes_lost_as One block) (lanes_lost One block) _ (none_beyond block)
+beyond_one block = beyond_within (lanes_lost_as One block) (lanes_lost One block) _ (none_beyond block)
 
 pub count_most : (shape : Shape) (block : List ℕ) → rows shape ≤ length block
     → verdict_count (verdict_of shape block) + verdict_beyond (verdict_of shape block) ≤ 32
 unfolding verdict_of
 count_most shape block long =
-    few-counted (lanes_lost_as shape block) 32 (lanes_lost shape block) (bits_changed shape block (mended_block shape block)) (kinds_lost shape block)
+    few_counted (lanes_lost_as shape block) 32 (lanes_lost shape block) (bits_changed shape block (mended_block shape block)) (kinds_lost shape block)
     (few_lost shape block)
     (λ none.
-    rw (mended-kept shape block none, changed-odd shape block long (none_kept shape block none))
+    rw (mended_kept shape block none, changed_odd shape block long (none_kept shape block none))
     (total_few 32 _ (λ i h. pick_one (odd (rows shape) (lane i block)))))
 
 -- an even lane that is not lost is unchanged
@@ -157,34 +157,34 @@ even_unchanged m false (suc s) p e k = absurd (true≢false k)
 
 module _ (shape : Shape) (block : List ℕ) where
   -- where no bit changes the block is as it was
-  pub clean-left : rows shape ≤ length block → lanes_lost shape block ≡ 0 → bits_changed shape block (mended_block shape block) ≡ 0
+  pub clean_left : rows shape ≤ length block → lanes_lost shape block ≡ 0 → bits_changed shape block (mended_block shape block) ≡ 0
       → mended_block shape block ≡ block
-  clean-left long none same =
+  clean_left long none same =
       let kept = none_kept shape block none in
       let even = counted_none 32 (λ i. odd (rows shape) (lane i block))
-      (sym (changed-odd shape block long kept) ∙ sym (ap (bits_changed shape block) (mended-kept shape block none)) ∙ same) in
-      mended-kept shape block none
-      ∙ sym (unchanged-lanes shape block (λ i h p. even_unchanged (before shape) _ _ p (even i h) (kept i h)))
+      (sym (changed_odd shape block long kept) ∙ sym (ap (bits_changed shape block) (mended_kept shape block none)) ∙ same) in
+      mended_kept shape block none
+      ∙ sym (unchanged_lanes shape block (λ i h p. even_unchanged (before shape) _ _ p (even i h) (kept i h)))
 
   module _ (v : Verdict) (says : v ≡ verdict_of shape block) where
-    pub lost-some : (e b : ℕ) → v ≡ Lost e b → lanes_lost shape block ≡ 0 → ⊥
+    pub lost_some : (e b : ℕ) → v ≡ Lost e b → lanes_lost shape block ≡ 0 → ⊥
     unfolding verdict_of
-    lost-some e b l = some-lost (lanes_lost_as shape block) (lanes_lost shape block) _ e b (sym says ∙ l)
+    lost_some e b l = some_lost (lanes_lost_as shape block) (lanes_lost shape block) _ e b (sym says ∙ l)
 
-    pub mended-none : (m : ℕ) → v ≡ Mended m → lanes_lost shape block ≡ 0
+    pub mended_none : (m : ℕ) → v ≡ Mended m → lanes_lost shape block ≡ 0
     unfolding verdict_of
-    mended-none m says_so = none-mended (lanes_lost_as shape block) (lanes_lost shape block) _ m (sym says ∙ says_so)
+    mended_none m says_so = none_mended (lanes_lost_as shape block) (lanes_lost shape block) _ m (sym says ∙ says_so)
 
-    pub not-lost : NotLost v → lanes_lost shape block ≡ 0
+    pub not_lost : NotLost v → lanes_lost shape block ≡ 0
     unfolding verdict_of
-    not-lost keys = none_lost (lanes_lost_as shape block) (lanes_lost shape block) _ (subst NotLost says keys)
+    not_lost keys = none_lost (lanes_lost_as shape block) (lanes_lost shape block) _ (subst NotLost says keys)
 
-    pub not-mended : rows shape ≤ length block → NotMended v → mended_block shape block ≡ block
+    pub not_mended : rows shape ≤ length block → NotMended v → mended_block shape block ≡ block
     unfolding verdict_of
-    not-mended long keys = by (lanes_lost shape block) refl
+    not_mended long keys = by (lanes_lost shape block) refl
       where
         by : (n : ℕ) → lanes_lost shape block ≡ n → mended_block shape block ≡ block
         by zero e =
-            clean-left long e
-            (none-changed (lanes_lost_as shape block) (lanes_lost shape block) _ (subst NotMended says keys) e)
-        by (suc n) e = mended-lost shape block n e
+            clean_left long e
+            (none_changed (lanes_lost_as shape block) (lanes_lost shape block) _ (subst NotMended says keys) e)
+        by (suc n) e = mended_lost shape block n e

@@ -41,9 +41,9 @@ said_by_lem zero kinds (suc changed) = refl
 said_by_lem (suc lost) kinds changed = refl
 
 module _ (shape : Shape) (block : List ℕ) where
-  pub verdict-says : said_of (verdict_of shape block) ≡ to_say shape block
+  pub verdict_says : said_of (verdict_of shape block) ≡ to_say shape block
   unfolding verdict_of to_say
-  verdict-says = said_by_lem (lanes_lost shape block) (lanes_lost_as shape block) (bits_changed shape block (mended_block shape block))
+  verdict_says = said_by_lem (lanes_lost shape block) (lanes_lost_as shape block) (bits_changed shape block (mended_block shape block))
 
-  pub says-verdict : {v : Verdict} → said_of v ≡ to_say shape block → v ≡ verdict_of shape block
-  says-verdict {v} e = said_told v (verdict_of shape block) (e ∙ sym verdict-says)
+  pub says_verdict : {v : Verdict} → said_of v ≡ to_say shape block → v ≡ verdict_of shape block
+  says_verdict {v} e = said_told v (verdict_of shape block) (e ∙ sym verdict_says)

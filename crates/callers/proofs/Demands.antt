@@ -76,9 +76,9 @@ module _ {image : List ℕ} {layout : Layout} {block number : ℕ} where
       let told = (read-said c).0 in
       refusing told d.ruled (λ ne. (c.keeps, c.leaves ∙ d.unchanged ne, c.says ∙ none_said _ _ (λ z. ne (sym told ∙ c.answers ∙ z))))
 
-  visit-refuses : {after verdict : List ℕ} → VisitCall image layout block number after verdict
+  visit_refuses : {after verdict : List ℕ} → VisitCall image layout block number after verdict
       → CallerRefusing (Ruled (block_rules (length image) layout block)) number ((after ≡ image) × (verdict ≡ replicate verdictWidth 0))
-  visit-refuses c =
+  visit_refuses c =
       let d = demand_1.visit image layout block _ _ (visits image layout block refl refl) in
       let told = (visit-said c).0 in
       refusing told d.ruled (λ ne. (c.leaves ∙ d.unchanged ne, c.says ∙ none_said _ _ (λ z. ne (sym told ∙ c.answers ∙ z))))
@@ -116,28 +116,28 @@ turn_refuses {lent} {image} size c =
 
 pub caller_demand_1 : CallerDemand1
 caller_demand_1 =
-    record { write = write_refuses; read = read_refuses; visit = visit-refuses; format = format_refuses; ask = ask_refuses; turn = turn_refuses }
+    record { write = write_refuses; read = read_refuses; visit = visit_refuses; format = format_refuses; ask = ask_refuses; turn = turn_refuses }
 
 -- ---- demand 2
 
 module _ {image : List ℕ} {layout : Layout} {block number : ℕ} where
-  visit-mends : {after verdict : List ℕ} → Fitting image → VisitCall image layout block number after verdict → number ≡ 0
+  visit_mends : {after verdict : List ℕ} → Fitting image → VisitCall image layout block number after verdict → number ≡ 0
       → (answer : Answer) × Visiting image layout block answer after × (verdict ≡ answer_words answer)
-  visit-mends fits c z =
+  visit_mends fits c z =
       let told = visit-said c in
       let d = demand_2.visit image layout block _ _ fits (visits image layout block refl refl) (sym told.0 ∙ z) in
       (visit_answer image layout block, rw c.leaves d, told.1)
 
-  write-stores : {list after : List ℕ} → Fitting list → WriteCall image layout block list number after → number ≡ 0
+  write_stores : {list after : List ℕ} → Fitting list → WriteCall image layout block list number after → number ≡ 0
       → Writing image layout block list after
-  write-stores {list} fits c z =
+  write_stores {list} fits c z =
       rw c.leaves (demand_2.write image layout block list _ _ fits (writes image layout block list refl refl) (sym (write-said c) ∙ z))
 
-  read-mends : {buffer kept after verdict : List ℕ} → Fitting image → ReadCall image layout block buffer number kept after verdict → number ≡ 0
+  read_mends : {buffer kept after verdict : List ℕ} → Fitting image → ReadCall image layout block buffer number kept after verdict → number ≡ 0
       → (kept ≡ image)
       × (answer : Answer) × Reading layout block buffer answer after (visit_answer image layout block) (visit_after image layout block)
       × (verdict ≡ answer_words answer)
-  read-mends {buffer} fits c z =
+  read_mends {buffer} fits c z =
       let told = read-said c in
       let d = demand_2.read image layout block buffer _ _ _ fits (reads image layout block buffer refl refl) (sym told.0 ∙ z) _ _
       (visits image layout block refl refl) in
@@ -169,7 +169,7 @@ turn_passes {lent} {image} {words} {after} {report} c z {between} {verdict} v =
     }
 
 pub caller_demand_2 : CallerDemand2
-caller_demand_2 = record { visit = visit-mends; write = write-stores; read = read-mends; turn = turn_passes }
+caller_demand_2 = record { visit = visit_mends; write = write_stores; read = read_mends; turn = turn_passes }
 
 -- ---- demand 3
 

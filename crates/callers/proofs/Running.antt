@@ -11,7 +11,7 @@ use Rattle.layout.specs.declared.Layout.{Layout}
 use Rattle.layout.specs.Layout.{shape_of, blocks}
 use Rattle.layout.specs.Refusal.{layout_refusal, image_refusal}
 use Rattle.rota.specs.Line.{places, asks_of}
-use Rattle.rota.proofs.Ranges.{ask-long, turn-long}
+use Rattle.rota.proofs.Ranges.{ask_long, turn_long}
 use Rattle.store.specs.Fresh.{fresh_after}
 use Rattle.store.specs.Write.{write_after}
 use Rattle.store.specs.Visit.{visit_after}
@@ -38,20 +38,20 @@ held_long kept =
     length-take-le places (drop front_width kept.words) (omega (arith, length-drop front_width kept.words, kept.size))
 
 module _ (r : Record) (long : Long r) where
-  asked-long : (block : ℕ) → Long (asked r block).back
+  asked_long : (block : ℕ) → Long (asked r block).back
   unfolding asked
-  asked-long block = go (layout_refusal r.layout)
+  asked_long block = go (layout_refusal r.layout)
     where
       go : (number : ℕ) → Long (asked_by r block number).back
-      go zero = ask-long (blocks r.layout) r.rota long block
+      go zero = ask_long (blocks r.layout) r.rota long block
       go (suc number) = long
 
-  turned-long : (image : List ℕ) → Long (turned r image).back
+  turned_long : (image : List ℕ) → Long (turned r image).back
   unfolding turned
-  turned-long image = go (image_refusal (length image) r.layout)
+  turned_long image = go (image_refusal (length image) r.layout)
     where
       go : (number : ℕ) → Long (turned_by r image number).back
-      go zero = turn-long (blocks r.layout) r.rota long
+      go zero = turn_long (blocks r.layout) r.rota long
       go (suc number) = long
 
 -- the record of a format
@@ -88,7 +88,7 @@ made (visit layout block) old =
 made (ask block) old =
     let r = record_of old.words in
     let moved = if_zero (ask_refused r block) (with_ask r block) r in
-    let long : Long moved = subst Long (asks r block refl).back (asked-long r (held_long old) block) in (
+    let long : Long moved = subst Long (asks r block refl).back (asked_long r (held_long old) block) in (
       _,
       keep old.image (record_words moved) (long_size moved long),
       (_, record { answers = refl; back = refl; says = refl }, refl),
@@ -96,7 +96,7 @@ made (ask block) old =
 made turn old =
     let r = record_of old.words in
     let moved = if_zero (turn_refused r (length old.image)) (with_turn r) r in
-    let long : Long moved = subst Long (turns r old.image refl refl).back (turned-long r (held_long old) old.image) in
+    let long : Long moved = subst Long (turns r old.image refl refl).back (turned_long r (held_long old) old.image) in
     let left = if_zero (turn_refused r (length old.image)) (ask_visited r.layout old.image r.rota.next (asks_of r.rota.line)) old.image in (
       _,
       keep left (record_words moved) (long_size moved long),

@@ -29,10 +29,10 @@ formats_so {image} {layout = layout} c = formats image layout refl c.leaves
 
 -- what a visit and a read tell, where the words are those of a block that is lost whole
 module _ {image : List ℕ} {layout : Layout} {block number : ℕ} where
-  visited-whole : {after verdict : List ℕ} (c : VisitCall image layout block number after verdict)
+  visited_whole : {after verdict : List ℕ} (c : VisitCall image layout block number after verdict)
       → LostWhole (answer_said (visit_answer image layout block)) × (visit_after image layout block ≡ image)
       → (verdict ≡ lost_whole) × (after ≡ image)
-  visited-whole c d = ((visit-said c).1 ∙ whole_words _ d.0, c.leaves ∙ d.1)
+  visited_whole c d = ((visit-said c).1 ∙ whole_words _ d.0, c.leaves ∙ d.1)
 
   read_whole : {buffer kept after verdict : List ℕ} (c : ReadCall image layout block buffer number kept after verdict)
       → LostWhole (answer_said (read_answer image layout block buffer)) × (read_buffer image layout block buffer ≡ buffer)
@@ -44,7 +44,7 @@ dead_visited : {image after verdict : List ℕ} {layout : Layout} {block number 
     → number ≡ 0
     → (verdict ≡ lost_whole) × (after ≡ image)
 dead_visited {image} {after} {verdict} {layout} {block} dead c z =
-    visited-whole c (stored_form.dead_visit image layout block _ _ dead (visits image layout block refl refl) (sym (visit-said c).0 ∙ z))
+    visited_whole c (stored_form.dead_visit image layout block _ _ dead (visits image layout block refl refl) (sym (visit-said c).0 ∙ z))
 
 pub caller_stored : CallerStored
 caller_stored =
@@ -52,7 +52,7 @@ caller_stored =
       fresh_ones = λ c block p. stored_form.fresh_ones _ _ _ _ (formats_so c) block p;
       fresh_zeros = λ c block p. stored_form.fresh_zeros _ _ _ _ (formats_so c) block p;
       dead_block = λ {image} {after} {verdict} {layout} {block} fits dead c z.
-          visited-whole c (stored_form.dead_block image layout block _ _ fits dead (visits image layout block refl refl) (sym (visit-said c).0 ∙ z));
+          visited_whole c (stored_form.dead_block image layout block _ _ fits dead (visits image layout block refl refl) (sym (visit-said c).0 ∙ z));
       dead_block_read = λ {image} {buffer} {kept} {after} {verdict} {layout} {block} fits dead c z.
           read_whole c
           (stored_form.dead_block_read image layout block buffer _ _ _ fits dead (reads image layout block buffer refl refl) (sym (read-said c).0 ∙ z));

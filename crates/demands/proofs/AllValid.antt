@@ -12,18 +12,18 @@ use Rattle.lane.proofs.Linear.{valid_same}
 use Rattle.shape.specs.Shape.{before, words}
 use Rattle.sums.specs.Words.{lane}
 use Rattle.block.specs.Block.{Fitting, ValidBlock, valid_block}
-use Rattle.block.proofs.ValidBlocks.{valid-is}
+use Rattle.block.proofs.ValidBlocks.{valid_is}
 use Rattle.layout.specs.declared.Layout.{Layout}
 use Rattle.layout.specs.Layout.{shape_of}
 use Rattle.layout.specs.Refusal.{image_refusal}
-use Rattle.layout.proofs.Ladder.{image-layout, image-exact}
+use Rattle.layout.proofs.Ladder.{image_layout, image_exact}
 use Rattle.store.specs.declared.Answer.{Answer}
 use Rattle.store.specs.Fresh.{fresh_image, fresh_after}
 use Rattle.store.specs.Image.{gathered}
 use Rattle.store.specs.Refusal.{data_refusal}
 use Rattle.store.specs.Write.{Writes, write_after}
-use Rattle.store.proofs.After.{write-words}
-use Rattle.store.proofs.FreshBlocks.{length-fresh, fresh-words, fresh-block}
+use Rattle.store.proofs.After.{write_words}
+use Rattle.store.proofs.FreshBlocks.{length_fresh, fresh_words, fresh_block}
 use Rattle.patrol.specs.declared.Formatted.{Formatted}
 use Rattle.patrol.specs.Format.{Formats}
 use Rattle.demands.specs.Burst.{AllValid}
@@ -35,12 +35,12 @@ fresh_all layout len fits =
     let shape = shape_of layout in
     let zeros : List ℕ = replicate (words shape) 0 in
     record {
-      fits = rw (length-fresh layout, ← image-exact layout len fits) fits;
-      words = fresh-words layout;
+      fits = rw (length_fresh layout, ← image_exact layout len fits) fits;
+      words = fresh_words layout;
       valid = λ block inside i l.
           valid_same (before shape) (lane i (valid_block shape zeros)) (lane i (gathered layout block (fresh_image layout)))
-          (λ j h. ap (bit i) (sym (fresh-block layout (image-layout layout len fits) block (omega (arith, inside)) j h)))
-          (valid-is shape zeros i l);
+          (λ j h. ap (bit i) (sym (fresh_block layout (image_layout layout len fits) block (omega (arith, inside)) j h)))
+          (valid_is shape zeros i l);
     }
 
 pub fresh_valid : (image : List ℕ) (layout : Layout) (answer : Formatted) (after : List ℕ) → Formats image layout answer after → answer.number ≡ 0
@@ -61,7 +61,7 @@ write_valid image layout all block list answer after small p =
     let writing = demand_2.write image layout block list answer after small p (p.answers.number ∙ e) in
     record {
       fits = rw writing.untouched.size all.fits;
-      words = rw p.leaves (write-words image layout block list all.words);
+      words = rw p.leaves (write_words image layout block list all.words);
       valid = λ other inside.
           by_cases (ℕ_discrete other block) (λ same. rw same writing.valid)
           (λ ne. subst (ValidBlock (shape_of layout)) (sym (writing.untouched.others other ne)) (all.valid other inside));

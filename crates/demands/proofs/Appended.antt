@@ -5,20 +5,20 @@ use mathlib.Core.Path.{◌≡◌, refl}
 use mathlib.Core.List.{List, [], ◌∷◌, ◌++◌}
 use Rattle.rota.specs.declared.Rota.{Rota}
 use Rattle.rota.specs.Memory.{Memory}
-use Rattle.rota.specs.Patrol.{StepOf, memoryStep, memoryRun}
-use Rattle.rota.specs.Steps.{Step, rotaStep, rotaRun}
+use Rattle.rota.specs.Patrol.{StepOf, memory_step, memory_run}
+use Rattle.rota.specs.Steps.{Step, rota_step, rota_run}
 use Rattle.rota.specs.Touches.{Touch, meant, last_written}
 
-pub rota_append : {Other : Type 0} (n : ℕ) (l k : List (Step Other)) (rota : Rota) → rotaRun n (l ++ k) rota ≡ rotaRun n k (rotaRun n l rota)
-unfolding rotaRun
+pub rota_append : {Other : Type 0} (n : ℕ) (l k : List (Step Other)) (rota : Rota) → rota_run n (l ++ k) rota ≡ rota_run n k (rota_run n l rota)
+unfolding rota_run
 rota_append n [] k rota = refl
-rota_append n (step ∷ l) k rota = rota_append n l k (rotaStep n step rota)
+rota_append n (step ∷ l) k rota = rota_append n l k (rota_step n step rota)
 
 pub memory_append : {n : ℕ} (M : Memory n) (l k : List (StepOf M)) (rota : Rota) (m : M.State)
-    → memoryRun M (l ++ k) rota m ≡ memoryRun M k (rotaRun n l rota) (memoryRun M l rota m)
-unfolding memoryRun rotaRun
+    → memory_run M (l ++ k) rota m ≡ memory_run M k (rota_run n l rota) (memory_run M l rota m)
+unfolding memory_run rota_run
 memory_append M [] k rota m = refl
-memory_append {n} M (step ∷ l) k rota m = memory_append M l k (rotaStep n step rota) (memoryStep M step rota m)
+memory_append {n} M (step ∷ l) k rota m = memory_append M l k (rota_step n step rota) (memory_step M step rota m)
 
 pub written_append : {Data Flip : Type 0} (block : ℕ) (old : Data) (l k : List (Step (Touch Data Flip)))
     → last_written block old (l ++ k) ≡ last_written block (last_written block old l) k

@@ -10,7 +10,7 @@ use Rattle.ground.proofs.Choices.{refused_kept}
 use Rattle.ground.proofs.Rules.{distinct?, ruled}
 use Rattle.layout.specs.declared.Layout.{Layout}
 use Rattle.layout.specs.Reason.{block_rules}
-use Rattle.layout.proofs.Ladder.{block-first}
+use Rattle.layout.proofs.Ladder.{block_first}
 use Rattle.store.specs.declared.Answer.{Answer}
 use Rattle.store.specs.Answer.{answer_number, answered}
 use Rattle.store.specs.Reason.{data_rules}
@@ -18,8 +18,8 @@ use Rattle.store.specs.Write.{write_answer, write_after}
 use Rattle.store.specs.Read.{read_answer, read_buffer}
 use Rattle.store.specs.Visit.{visit_answer, visit_after}
 use Rattle.store.proofs.Answers.{answered-number, answered-refused}
-use Rattle.store.proofs.Ladder.{data-first}
-use Rattle.store.proofs.Promises.{writes-answer, reads-answer, visits-answer}
+use Rattle.store.proofs.Ladder.{data_first}
+use Rattle.store.proofs.Promises.{writes_answer, reads_answer, visits_answer}
 use Rattle.store.specs.Fresh.{fresh_after}
 use Rattle.patrol.specs.declared.Record.{Record}
 use Rattle.patrol.specs.declared.Report.{Report}
@@ -27,10 +27,10 @@ use Rattle.patrol.specs.Numbers.{unseen, report_number, report_first, report_sec
 use Rattle.patrol.specs.Format.{formatted}
 use Rattle.patrol.specs.Ask.{asked}
 use Rattle.patrol.specs.Turn.{turned, turn_after}
-use Rattle.patrol.proofs.Promises.{formats-answer, asks-answer, turns-answer}
+use Rattle.patrol.proofs.Promises.{formats_answer, asks_answer, turns_answer}
 use Rattle.patrol.proofs.Numbers.{place_bare, report_bare}
-use Rattle.patrol.proofs.Unchanged.{format_unchanged, ask-unchanged, turn-unchanged}
-use Rattle.patrol.proofs.Reasons.{format_first, ask-first, turn-first}
+use Rattle.patrol.proofs.Unchanged.{format_unchanged, ask_unchanged, turn_unchanged}
+use Rattle.patrol.proofs.Reasons.{format_first, ask_first, turn_first}
 use Rattle.demands.specs.Demand1.{Refusing, FormatRefusing, AskRefusing, Bare, TurnRefusing, Demand1}
 
 -- a call that answers the first of its rules, and leaves what was lent where it refuses
@@ -53,16 +53,16 @@ module _ (image : List ℕ) (layout : Layout) (block : ℕ) where
   pub write_refuses : (list : List ℕ)
       → Refusing (data_rules (length image) layout block (length list)) (write_answer image layout block list) image (write_after image layout block list)
   unfolding write_answer write_after
-  write_refuses list = refusing _ _ _ refl tt (data-first (length image) layout block (length list)) _ image
+  write_refuses list = refusing _ _ _ refl tt (data_first (length image) layout block (length list)) _ image
 
   pub read_refuses : (buffer : List ℕ)
       → Refusing (data_rules (length image) layout block (length buffer)) (read_answer image layout block buffer) buffer (read_buffer image layout block buffer)
   unfolding read_answer read_buffer
-  read_refuses buffer = refusing _ _ _ refl tt (data-first (length image) layout block (length buffer)) _ buffer
+  read_refuses buffer = refusing _ _ _ refl tt (data_first (length image) layout block (length buffer)) _ buffer
 
-  pub visit-refuses : Refusing (block_rules (length image) layout block) (visit_answer image layout block) image (visit_after image layout block)
+  pub visit_refuses : Refusing (block_rules (length image) layout block) (visit_answer image layout block) image (visit_after image layout block)
   unfolding visit_answer visit_after
-  visit-refuses = refusing _ _ _ refl tt (block-first layout (length image) block) _ image
+  visit_refuses = refusing _ _ _ refl tt (block_first layout (length image) block) _ image
 
 pub format_refuses : (image : List ℕ) (layout : Layout) → FormatRefusing image layout (formatted image layout) (fresh_after image layout)
 format_refuses image layout =
@@ -70,7 +70,7 @@ format_refuses image layout =
 
 pub ask_refuses : (r : Record) (block : ℕ) → AskRefusing r block (asked r block)
 ask_refuses r block =
-    record { ruled = ruled _ _ tt (ask-first r block); bare = place_bare (asked r block).place; unchanged = ask-unchanged r block }
+    record { ruled = ruled _ _ tt (ask_first r block); bare = place_bare (asked r block).place; unchanged = ask_unchanged r block }
 
 turn_bare : (report : Report) → (report_number report ≡ 0 → ⊥) → Bare (report_first report) × Bare (report_second report)
 turn_bare report ne =
@@ -80,16 +80,16 @@ turn_bare report ne =
 
 pub turn_refuses : (r : Record) (image : List ℕ) → TurnRefusing r image (turned r image) (turn_after r image)
 turn_refuses r image =
-    record { ruled = ruled _ _ tt (turn-first r image); bare = turn_bare (turned r image).report; unchanged = turn-unchanged r image }
+    record { ruled = ruled _ _ tt (turn_first r image); bare = turn_bare (turned r image).report; unchanged = turn_unchanged r image }
 
 -- what a promise allows is what the call answers and leaves
 pub demand_1 : Demand1
 demand_1 =
     record {
-      write = λ image layout block list answer after p. rw (writes-answer image layout block list p, p.leaves) (write_refuses image layout block list);
-      read = λ image layout block buffer answer kept after p. rw (reads-answer image layout block buffer p, p.leaves) (read_refuses image layout block buffer);
-      visit = λ image layout block answer after p. rw (visits-answer image layout block p, p.leaves) (visit-refuses image layout block);
-      format = λ image layout answer after p. rw (formats-answer image layout p, p.leaves) (format_refuses image layout);
-      ask = λ r block answer p. rw (asks-answer r block p) (ask_refuses r block);
-      turn = λ r image answer after p. let e = turns-answer r image p in rw (e.0, e.1) (turn_refuses r image);
+      write = λ image layout block list answer after p. rw (writes_answer image layout block list p, p.leaves) (write_refuses image layout block list);
+      read = λ image layout block buffer answer kept after p. rw (reads_answer image layout block buffer p, p.leaves) (read_refuses image layout block buffer);
+      visit = λ image layout block answer after p. rw (visits_answer image layout block p, p.leaves) (visit_refuses image layout block);
+      format = λ image layout answer after p. rw (formats_answer image layout p, p.leaves) (format_refuses image layout);
+      ask = λ r block answer p. rw (asks_answer r block p) (ask_refuses r block);
+      turn = λ r image answer after p. let e = turns_answer r image p in rw (e.0, e.1) (turn_refuses r image);
     }

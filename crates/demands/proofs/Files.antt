@@ -8,7 +8,7 @@ use lib.Seq.{take_at, drop_at}
 use Rattle.ground.specs.Rules.{InOrder}
 use Rattle.ground.proofs.Rules.{ruled}
 use Rattle.ground.proofs.Choices.{refused_kept}
-use Rattle.ground.proofs.InOrder.{in_order, given_some, given-first}
+use Rattle.ground.proofs.InOrder.{in_order, given_some, given_first}
 use Rattle.layout.specs.declared.Layout.{Layout}
 use Rattle.layout.specs.Layout.{layout_of}
 use Rattle.file.specs.declared.Header.{Header}
@@ -18,43 +18,43 @@ use Rattle.file.specs.Refusal.{file_refusal, read_refusal, write_refusal}
 use Rattle.file.specs.Reason.{file_rules, read_rules, write_rules}
 use Rattle.file.specs.Header.{header_of, HeaderRead, ReadsFile}
 use Rattle.file.specs.Written.{written_number, written_bytes, WritesFile}
-use Rattle.file.proofs.Ladder.{file-first}
-use Rattle.file.proofs.RoundTrip.{length-file}
+use Rattle.file.proofs.Ladder.{file_first}
+use Rattle.file.proofs.RoundTrip.{length_file}
 use Rattle.file.proofs.FileReads.{read_first}
-use Rattle.file.proofs.FileWrites.{write-first}
+use Rattle.file.proofs.FileWrites.{write_first}
 use Rattle.text.specs.Page.{end_to_end}
 use Rattle.report.specs.Lines.{refusal_line}
 use Rattle.report.specs.Report.{image_report, report_of, Inspects}
 use Rattle.demands.specs.Files.{FileRefusing, FileReading, FileWriting, FileReported, FileDemand}
 
 module _ (bytes : List ℕ) where
-  pub file-in-order : InOrder (file_rules bytes) (file_refusal bytes)
-  file-in-order = in_order (file_rules bytes) (file_refusal bytes) tt (file-first bytes)
+  pub file_in_order : InOrder (file_rules bytes) (file_refusal bytes)
+  file_in_order = in_order (file_rules bytes) (file_refusal bytes) tt (file_first bytes)
 
-  pub file-refuses : (header : Header) → HeaderRead bytes header → FileRefusing bytes header
-  file-refuses header r =
+  pub file_refuses : (header : Header) → HeaderRead bytes header → FileRefusing bytes header
+  file_refuses header r =
       record {
-        ruled = rw r.number file-in-order;
-        named = λ none. r.layout ∙ rw (file-in-order.accepted.1 none);
+        ruled = rw r.number file_in_order;
+        named = λ none. r.layout ∙ rw (file_in_order.accepted.1 none);
         bare = λ ne. r.layout ∙ refused_kept (file_refusal bytes) (layout_in bytes) (layout_of 0 0 0) (λ e. ne (r.number ∙ e));
       }
 
-  refused-line : (number : ℕ) → (number ≡ 0 → ⊥) → file_refusal bytes ≡ number → end_to_end (report_of bytes) ≡ refusal_line number
+  refused_line : (number : ℕ) → (number ≡ 0 → ⊥) → file_refusal bytes ≡ number → end_to_end (report_of bytes) ≡ refusal_line number
   unfolding report_of header_of end_to_end
-  refused-line zero ne e = absurd (ne refl)
-  refused-line (suc number) ne e = rw e (append-nil (refusal_line (suc number)))
+  refused_line zero ne e = absurd (ne refl)
+  refused_line (suc number) ne e = rw e (append-nil (refusal_line (suc number)))
 
-  pub accepted-lines : file_refusal bytes ≡ 0 → report_of bytes ≡ image_report (image_in bytes) (layout_in bytes)
+  pub accepted_lines : file_refusal bytes ≡ 0 → report_of bytes ≡ image_report (image_in bytes) (layout_in bytes)
   unfolding report_of header_of
-  accepted-lines e = rw e
+  accepted_lines e = rw e
 
-  pub file-reported : (out : List ℕ) (end : ℕ) (left : List ℕ) → Inspects bytes out end left → FileReported bytes (take end left)
-  file-reported out end left r =
+  pub file_reported : (out : List ℕ) (end : ℕ) (left : List ℕ) → Inspects bytes out end left → FileReported bytes (take end left)
+  file_reported out end left r =
       record {
         refused = λ number g.
             r.whole
-            ∙ refused-line number (given_some (file_rules bytes) number tt g) (given-first (file_refusal bytes) number (file_rules bytes) (file-first bytes) g);
-        accepted = λ none. r.whole ∙ ap end_to_end (accepted-lines (file-in-order.accepted.1 none));
+            ∙ refused_line number (given_some (file_rules bytes) number tt g) (given_first (file_refusal bytes) number (file_rules bytes) (file_first bytes) g);
+        accepted = λ none. r.whole ∙ ap end_to_end (accepted_lines (file_in_order.accepted.1 none));
         whole = r.whole;
       }
 
@@ -96,18 +96,18 @@ pub file_writes : (image : List ℕ) (layout : Layout) (buffer : List ℕ) (answ
     → FileWriting image layout buffer answer kept after
 file_writes image layout buffer answer kept after w =
     let number = write_refusal (length image) layout (length buffer) in
-    let rules = ruled (write_rules image layout buffer) number tt (write-first image layout buffer) in
+    let rules = ruled (write_rules image layout buffer) number tt (write_first image layout buffer) in
     record {
       ruled = rw w.number rules;
-      count = λ none. (written_file image layout buffer w (rules.accepted.1 none)).0 ∙ length-file layout image;
+      count = λ none. (written_file image layout buffer w (rules.accepted.1 none)).0 ∙ length_file layout image;
       file = λ none. (written_file image layout buffer w (rules.accepted.1 none)).1;
       past = past;
-      unchanged = λ ne. let some = kept-so ne in (w.bytes ∙ refused_kept number _ 0 some, w.leaves ∙ refused_kept number _ buffer some);
+      unchanged = λ ne. let some = kept_so ne in (w.bytes ∙ refused_kept number _ 0 some, w.leaves ∙ refused_kept number _ buffer some);
       keeps = w.keeps;
     }
   where
-    kept-so : (written_number answer ≡ 0 → ⊥) → write_refusal (length image) layout (length buffer) ≡ 0 → ⊥
-    kept-so ne z = ne (w.number ∙ z)
+    kept_so : (written_number answer ≡ 0 → ⊥) → write_refusal (length image) layout (length buffer) ≡ 0 → ⊥
+    kept_so ne z = ne (w.number ∙ z)
 
     past : drop (written_bytes answer) after ≡ drop (written_bytes answer) buffer
     past = elim (ℕ_discrete (write_refusal (length image) layout (length buffer)) 0) [
@@ -117,4 +117,4 @@ file_writes image layout buffer answer kept after w =
 
 pub file_demand : FileDemand
 file_demand =
-    record { header = file-refuses; read = file_reads; write = file_writes; report = file-reported; past = λ bytes out end left r. r.past }
+    record { header = file_refuses; read = file_reads; write = file_writes; report = file_reported; past = λ bytes out end left r. r.past }

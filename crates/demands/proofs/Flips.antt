@@ -24,17 +24,17 @@ module _ (at nth : ℕ) (image : List ℕ) where
   abbrev changed : ℕ
   changed = bit_xor (get_or image at 0) (2 ^ nth)
 
-  pub length-flipped : length (flipped at nth image) ≡ length image
+  pub length_flipped : length (flipped at nth image) ≡ length image
   unfolding flipped
-  length-flipped = go (ltb nth 32)
+  length_flipped = go (ltb nth 32)
     where
       go : (t : Bool) → length (cond t (set image at changed) image) ≡ length image
       go true = length-set image at changed
       go false = refl
 
-  pub flipped-words : Fitting image → Fitting (flipped at nth image)
+  pub flipped_words : Fitting image → Fitting (flipped at nth image)
   unfolding flipped stores
-  flipped-words fit = go (ltb nth 32) refl
+  flipped_words fit = go (ltb nth 32) refl
     where
       go : (t : Bool) → ltb nth 32 ≡ t → Fitting (cond t (set image at changed) image)
       go true e =
@@ -43,9 +43,9 @@ module _ (at nth : ℕ) (image : List ℕ) where
       go false e = fit
 
   -- every other bit is as it was
-  pub other-bit : (i j : ℕ) → (i ≡ at → j ≡ nth → ⊥) → bit j (get_or (flipped at nth image) i 0) ≡ bit j (get_or image i 0)
+  pub other_bit : (i j : ℕ) → (i ≡ at → j ≡ nth → ⊥) → bit j (get_or (flipped at nth image) i 0) ≡ bit j (get_or image i 0)
   unfolding flipped
-  other-bit i j ne = go (ltb nth 32)
+  other_bit i j ne = go (ltb nth 32)
     where
       same : i ≡ at → bit j (get_or (set image at changed) i 0) ≡ bit j (get_or image i 0)
       same e =
@@ -62,8 +62,8 @@ module _ (at nth : ℕ) (image : List ℕ) where
       go false = refl
 
   -- and the one that is flipped is changed
-  pub this-bit : nth < 32 → at < length image → bit nth (get_or (flipped at nth image) at 0) ≡ not (bit nth (get_or image at 0))
+  pub this_bit : nth < 32 → at < length image → bit nth (get_or (flipped at nth image) at 0) ≡ not (bit nth (get_or image at 0))
   unfolding flipped
-  this-bit low inside =
+  this_bit low inside =
       rw (lt-ltb nth 32 low, get_or-set_same image at changed 0 inside, bit_of_xor nth (get_or image at 0) (2 ^ nth), power_digit nth)
       (⊕-one (bit nth (get_or image at 0)))

@@ -16,25 +16,25 @@ use Rattle.shape.specs.declared.Shape.{Shape}
 use Rattle.shape.specs.Shape.{before, rows, words}
 use Rattle.sums.specs.Words.{lane}
 use Rattle.block.specs.Block.{lanes_lost, mended_block, valid_block, data_of, Near, SameRows, Fitting}
-use Rattle.block.proofs.Blocks.{near_none, near-rows, mended_fits}
+use Rattle.block.proofs.Blocks.{near_none, near_rows, mended_fits}
 use Rattle.shape.proofs.Sizes.{rows_fit}
-use Rattle.block.proofs.ValidBlocks.{length-valid, valid-out, valid-fits, valid-is}
+use Rattle.block.proofs.ValidBlocks.{length_valid, valid_out, valid_fits, valid_is}
 use Rattle.layout.specs.declared.Layout.{Layout}
 use Rattle.layout.specs.Layout.{shape_of, blocks, index}
 use Rattle.layout.specs.Refusal.{image_refusal}
 use Rattle.layout.proofs.RowsInside.{interleaved, row_inside}
-use Rattle.layout.proofs.Ladder.{image-layout, image-exact, block-accepted}
+use Rattle.layout.proofs.Ladder.{image_layout, image_exact, block_accepted}
 use Rattle.store.specs.Image.{gathered, placed}
 use Rattle.store.specs.Fresh.{fresh_image}
 use Rattle.store.specs.Visit.{visit_after}
-use Rattle.store.proofs.After.{visit-untouched, visit-words, visit-held}
-use Rattle.store.proofs.Image.{length-gathered, same_bit, gathered-words, length-placed, placed-words, placed-untouched, gathered-placed}
+use Rattle.store.proofs.After.{visit_untouched, visit_words_lem, visit_held}
+use Rattle.store.proofs.Image.{length_gathered, same_bit, gathered_words, length_placed, placed_words, placed_untouched, gathered_placed}
 use Rattle.rota.specs.Memory.{Memory}
 use Rattle.demands.specs.Steps.{flipped}
-use Rattle.demands.proofs.Index.{block_at, rowsPast, only_at}
-use Rattle.demands.proofs.SameBlocks.{same-apart, same-data}
-use Rattle.store.proofs.FreshBlocks.{length-fresh, fresh-words, fresh-block}
-use Rattle.demands.proofs.Flips.{length-flipped, flipped-words, other-bit}
+use Rattle.demands.proofs.Index.{block_at, rows_past, only_at}
+use Rattle.demands.proofs.SameBlocks.{same_apart, same_data}
+use Rattle.store.proofs.FreshBlocks.{length_fresh, fresh_words, fresh_block}
+use Rattle.demands.proofs.Flips.{length_flipped, flipped_words, other_bit}
 
 -- two pairs of numbers are the same or not
 pub pair? : (u v : ℕ × ℕ) → Dec (u ≡ v)
@@ -68,8 +68,8 @@ module _ (len : ℕ) (layout : Layout) (fits : image_refusal len layout ≡ 0) w
   found block image =
       (lanes_lost shape (gathered layout block image), data_of shape (mended_block shape (gathered layout block image)))
 
-  pub as-meant : (image : List ℕ) (u : ℕ × ℕ) (list : List ℕ) → SameRows shape (gathered layout u.0 image) (valid_block shape list) → OffBy 0 image u list
-  as-meant image u list h l = omega (arith, same-apart shape (gathered layout u.0 image) (valid_block shape list) h u.1)
+  pub as_meant : (image : List ℕ) (u : ℕ × ℕ) (list : List ℕ) → SameRows shape (gathered layout u.0 image) (valid_block shape list) → OffBy 0 image u list
+  as_meant image u list h l = omega (arith, same_apart shape (gathered layout u.0 image) (valid_block shape list) h u.1)
 
   -- where a block is gathered as before, its lanes are as far off as before
   pub unmoved : (k : ℕ) (image new : List ℕ) (u : ℕ × ℕ) (list : List ℕ) → gathered layout u.0 new ≡ gathered layout u.0 image
@@ -83,36 +83,36 @@ module _ (len : ℕ) (layout : Layout) (fits : image_refusal len layout ≡ 0) w
     here = gathered layout block image
 
     long : rows shape ≤ length here
-    long = rw (length-gathered layout block image) (rows_fit shape)
+    long = rw (length_gathered layout block image) (rows_fit shape)
 
     near : Near shape here (valid_block shape list)
     near i h = off (block, i) refl h
 
     pub none_lost : lanes_lost shape here ≡ 0
-    none_lost = near_none shape here long (valid_block shape list) (valid-is shape list) near
+    none_lost = near_none shape here long (valid_block shape list) (valid_is shape list) near
 
-    pub mended-rows : SameRows shape (mended_block shape here) (valid_block shape list)
-    mended-rows =
-        near-rows shape here long (valid_block shape list) (valid-is shape list) near
-        (mended_fits shape here (gathered-words layout block image ok.small))
-        (valid-fits shape list)
+    pub mended_rows : SameRows shape (mended_block shape here) (valid_block shape list)
+    mended_rows =
+        near_rows shape here long (valid_block shape list) (valid_is shape list) near
+        (mended_fits shape here (gathered_words layout block image ok.small))
+        (valid_fits shape list)
 
     pub found_right : found block image ≡ (0, data_of shape (valid_block shape list))
-    found_right = λ i. (none_lost i, same-data shape (mended_block shape here) (valid_block shape list) mended-rows i)
+    found_right = λ i. (none_lost i, same_data shape (mended_block shape here) (valid_block shape list) mended_rows i)
 
   -- ---- a flip
 
   module _ (at nth : ℕ) (image : List ℕ) (u : ℕ × ℕ) where
     -- a row of the lane is as it was, unless the flip is in that lane and that row
-    row_kept : (k : ℕ) → k < rows shape → (u.0 ≡ block_at layout at → k ≡ rowsPast layout at → u.1 ≡ nth → ⊥)
+    row_kept : (k : ℕ) → k < rows shape → (u.0 ≡ block_at layout at → k ≡ rows_past layout at → u.1 ≡ nth → ⊥)
         → lane u.1 (gathered layout u.0 (flipped at nth image)) (suc k) ≡ lane u.1 (gathered layout u.0 image) (suc k)
     row_kept k h ne =
         same_bit layout u.0 u.1 (flipped at nth image) image k h
-        (other-bit at nth image (index layout u.0 (suc k)) u.1
+        (other_bit at nth image (index layout u.0 (suc k)) u.1
         (λ e f. let q = only_at layout first at u.0 k h e in ne q.0 q.1 f))
 
-    pub flip-elsewhere : ((block_at layout at, nth) ≡ u → ⊥) → (list : List ℕ) (k : ℕ) → OffBy k image u list → OffBy k (flipped at nth image) u list
-    flip-elsewhere ne list k off l =
+    pub flip_elsewhere : ((block_at layout at, nth) ≡ u → ⊥) → (list : List ℕ) (k : ℕ) → OffBy k image u list → OffBy k (flipped at nth image) u list
+    flip_elsewhere ne list k off l =
         omega (
           arith,
           off l,
@@ -123,23 +123,23 @@ module _ (len : ℕ) (layout : Layout) (fits : image_refusal len layout ≡ 0) w
               ap (λ (b : Bool). b ⊕ lane u.1 (valid_block shape list) (suc j)) (row_kept j h (λ e r f. ne (λ i. (sym e i, sym f i))))),
         )
 
-    pub flip-there : (list : List ℕ) → OffBy 0 image u list → OffBy 1 (flipped at nth image) u list
-    flip-there list off l =
+    pub flip_there : (list : List ℕ) → OffBy 0 image u list → OffBy 1 (flipped at nth image) u list
+    flip_there list off l =
         count_single (rows shape) (diff (lane u.1 (gathered layout u.0 (flipped at nth image))) (lane u.1 (valid_block shape list)))
-        (rowsPast layout at)
+        (rows_past layout at)
         (λ j h ne.
         ap (λ (b : Bool). b ⊕ lane u.1 (valid_block shape list) (suc j)) (row_kept j h (λ e r f. ne r))
         ∙ empty (rows shape) (diff (lane u.1 (gathered layout u.0 image)) (lane u.1 (valid_block shape list))) (omega (arith, off l)) j h)
 
   -- ---- a fresh image
 
-  pub fresh-sound : Sound (fresh_image layout)
-  fresh-sound = record { size = length-fresh layout ∙ sym (image-exact layout len fits); small = fresh-words layout }
+  pub fresh_sound : Sound (fresh_image layout)
+  fresh_sound = record { size = length_fresh layout ∙ sym (image_exact layout len fits); small = fresh_words layout }
 
   -- ---- the memory
 
-  abbrev pub imageMemory : Memory (blocks layout)
-  imageMemory =
+  abbrev pub image_memory : Memory (blocks layout)
+  image_memory =
       record {
         State = List ℕ;
         Lane = ℕ × ℕ;
@@ -157,39 +157,39 @@ module _ (len : ℕ) (layout : Layout) (fits : image_refusal len layout ≡ 0) w
         read = found;
         gives = λ list. (0, data_of shape (valid_block shape list));
         Good = Sound;
-        fresh_good = fresh-sound;
+        fresh_good = fresh_sound;
         visit_good = λ block image ok.
-            record { size = (visit-untouched image layout block).size ∙ ok.size; small = visit-words image layout block ok.small };
+            record { size = (visit_untouched image layout block).size ∙ ok.size; small = visit_words_lem image layout block ok.small };
         write_good = λ block list image ok.
             record {
-              size = length-placed layout block (valid_block shape list) image ∙ ok.size;
-              small = placed-words layout block (valid_block shape list) image (valid-fits shape list) ok.small;
+              size = length_placed layout block (valid_block shape list) image ∙ ok.size;
+              small = placed_words layout block (valid_block shape list) image (valid_fits shape list) ok.small;
             };
-        flip_good = λ f image ok. record { size = length-flipped f.0 f.1 image ∙ ok.size; small = flipped-words f.0 f.1 image ok.small };
+        flip_good = λ f image ok. record { size = length_flipped f.0 f.1 image ∙ ok.size; small = flipped_words f.0 f.1 image ok.small };
         Off = OffBy;
         off_more = λ image u list ok off l. omega (arith, off l);
         fresh_zeros = λ u l.
-            as-meant (fresh_image layout) u (replicate (words shape) 0) (fresh-block layout (image-layout layout len fits) u.0 l);
+            as_meant (fresh_image layout) u (replicate (words shape) 0) (fresh_block layout (image_layout layout len fits) u.0 l);
         visit_here = λ block image list ok l off u e.
-            as-meant (visit_after image layout block) u list
-            (rw (e, visit-held image layout block (rw ok.size (block-accepted layout len block fits l))) (mended-rows block image list ok off));
+            as_meant (visit_after image layout block) u list
+            (rw (e, visit_held image layout block (rw ok.size (block_accepted layout len block fits l))) (mended_rows block image list ok off));
         visit_away = λ block image u list ok ne k off.
-            unmoved k image (visit_after image layout block) u list ((visit-untouched image layout block).others u.0 ne) off;
+            unmoved k image (visit_after image layout block) u list ((visit_untouched image layout block).others u.0 ne) off;
         write_here = λ block list image u ok l e.
-            as-meant (placed layout block (valid_block shape list) image) u list
+            as_meant (placed layout block (valid_block shape list) image) u list
             (rw (
               e,
-              gathered-placed layout block (first) (valid_block shape list) image
+              gathered_placed layout block (first) (valid_block shape list) image
                   (λ p a b. rw ok.size (row_inside layout len fits block p l a b))
-                  (length-valid shape list)
-                  (valid-out shape list),
+                  (length_valid shape list)
+                  (valid_out shape list),
             )
             (λ j h. refl));
         write_away = λ block new image u list ok ne k off.
             unmoved k image (placed layout block (valid_block shape new) image) u list
-            ((placed-untouched layout block (first) (valid_block shape new) image).others u.0 ne)
+            ((placed_untouched layout block (first) (valid_block shape new) image).others u.0 ne)
             off;
-        flip_here = λ f image u list ok e off. flip-there f.0 f.1 image u list off;
-        flip_away = λ f image u list ok ne k off. flip-elsewhere f.0 f.1 image u ne list k off;
+        flip_here = λ f image u list ok e off. flip_there f.0 f.1 image u list off;
+        flip_away = λ f image u list ok ne k off. flip_elsewhere f.0 f.1 image u ne list k off;
         read_here = λ block image list ok l off. found_right block image list ok off;
       }

@@ -6,27 +6,27 @@ use native.Mathlib.Omega.{arith}
 use lib.Arith.{digits_lt, digits_div, digits_mod}
 use Rattle.layout.specs.declared.Layout.{Layout}
 use Rattle.layout.specs.Layout.{rows_of, blocks, index}
-use Rattle.layout.proofs.Index.{stride, one-to-one}
+use Rattle.layout.proofs.Index.{stride, one_to_one}
 
 module _ (layout : Layout) where
   -- the block that an index lies in, and how many rows stand there before it
   abbrev pub block_at : ℕ → ℕ
   block_at at = at / layout.s / rows_of layout * layout.s + at % layout.s
 
-  abbrev pub rowsPast : ℕ → ℕ
-  rowsPast at = at / layout.s % rows_of layout
+  abbrev pub rows_past : ℕ → ℕ
+  rows_past at = at / layout.s % rows_of layout
 
-  pub row_below : (at : ℕ) → rowsPast at < rows_of layout
+  pub row_below : (at : ℕ) → rows_past at < rows_of layout
   row_below at = mod-lt (at / layout.s) (omega arith)
 
   module _ (first : 1 ≤ layout.s) where
     -- the row of the block has that index
-    pub index_at : (at : ℕ) → index layout (block_at at) (suc (rowsPast at)) ≡ at
+    pub index_at : (at : ℕ) → index layout (block_at at) (suc (rows_past at)) ≡ at
     index_at at =
         let s = layout.s in
         let rows = rows_of layout in
-        let row : suc (rowsPast at) - 1 ≡ rowsPast at = omega arith in
-        ap₂ (λ (group within : ℕ). group * rows * s + (suc (rowsPast at) - 1) * s + within)
+        let row : suc (rows_past at) - 1 ≡ rows_past at = omega arith in
+        ap₂ (λ (group within : ℕ). group * rows * s + (suc (rows_past at) - 1) * s + within)
         (digits_div (at / s / rows) (mod-lt at first))
         (digits_mod (at / s / rows) (mod-lt at first))
         ∙ ap (λ (k : ℕ). at / s / rows * rows * s + k * s + at % s) row
@@ -34,10 +34,10 @@ module _ (layout : Layout) where
         ∙ div-add-mod' at s
 
     -- and no other
-    pub only_at : (at block k : ℕ) → k < rows_of layout → index layout block (suc k) ≡ at → (block ≡ block_at at) × (k ≡ rowsPast at)
+    pub only_at : (at block k : ℕ) → k < rows_of layout → index layout block (suc k) ≡ at → (block ≡ block_at at) × (k ≡ rows_past at)
     only_at at block k h e =
         let same =
-        one-to-one (rows_of layout) layout.s first block (suc k) (block_at at) (suc (rowsPast at)) (omega arith) h (omega arith) (row_below at)
+        one_to_one (rows_of layout) layout.s first block (suc k) (block_at at) (suc (rows_past at)) (omega arith) h (omega arith) (row_below at)
         (e ∙ sym (index_at at)) in
         (same.0, omega (arith, same.1))
 

@@ -8,10 +8,10 @@ use Rattle.ground.specs.Choice.{if_zero}
 use Rattle.ground.proofs.Choices.{refused_kept}
 use Rattle.layout.specs.declared.Layout.{Layout}
 use Rattle.layout.specs.Refusal.{layout_refusal, image_refusal}
-use Rattle.layout.proofs.Ladder.{image-exact}
+use Rattle.layout.proofs.Ladder.{image_exact}
 use Rattle.store.specs.Fresh.{fresh_image, fresh_after}
-use Rattle.store.proofs.After.{visit-untouched, write-untouched}
-use Rattle.store.proofs.FreshBlocks.{length-fresh}
+use Rattle.store.proofs.After.{visit_untouched, write_untouched}
+use Rattle.store.proofs.FreshBlocks.{length_fresh}
 use Rattle.rota.specs.declared.Due.{Due}
 use Rattle.rota.specs.declared.Due.TheVariants.{Refused as NoneDue, One as OneDue, Two as TwoDue}
 use Rattle.patrol.specs.declared.Record.{Record}
@@ -21,15 +21,15 @@ use Rattle.patrol.specs.Turn.{visited, patrolled, turned_now, turned, turn_after
 use Rattle.patrol.proofs.Unchanged.{format_unchanged}
 use Rattle.demands.specs.Steps.{Step, format, write, read, visit, ask, turn, flip, State, fresh, step_after, after, answers}
 use Rattle.demands.specs.Demand3.{store}
-use Rattle.demands.proofs.Flips.{length-flipped}
+use Rattle.demands.proofs.Flips.{length_flipped}
 
 -- ---- the length
 
 due_size : (layout : Layout) (image : List ℕ) (d : Due) → length (patrolled layout image d) ≡ length image
 due_size layout image (NoneDue number) = refl
-due_size layout image (OneDue first) = (visit-untouched image layout first).size
+due_size layout image (OneDue first) = (visit_untouched image layout first).size
 due_size layout image (TwoDue first second) =
-    (visit-untouched (visited layout image first) layout second).size ∙ (visit-untouched image layout first).size
+    (visit_untouched (visited layout image first) layout second).size ∙ (visit_untouched image layout first).size
 
 turn_size : (r : Record) (image : List ℕ) → length (turn_after r image) ≡ length image
 unfolding turn_after
@@ -45,17 +45,17 @@ unfolding fresh_after
 format_size image layout = go (image_refusal (length image) layout) refl
   where
     go : (number : ℕ) → image_refusal (length image) layout ≡ number → length (if_zero number (fresh_image layout) image) ≡ length image
-    go zero e = length-fresh layout ∙ sym (image-exact layout (length image) e)
+    go zero e = length_fresh layout ∙ sym (image_exact layout (length image) e)
     go (suc number) e = refl
 
 pub step_size : (step : Step) (state : State) → length (step_after step state).image ≡ length state.image
 step_size (format layout) state = format_size state.image layout
-step_size (write layout block list) state = (write-untouched state.image layout block list).size
+step_size (write layout block list) state = (write_untouched state.image layout block list).size
 step_size (read layout block buffer) state = refl
-step_size (visit layout block) state = (visit-untouched state.image layout block).size
+step_size (visit layout block) state = (visit_untouched state.image layout block).size
 step_size (ask block) state = refl
 step_size turn state = turn_size state.patrol state.image
-step_size (flip at bit) state = length-flipped at bit state.image
+step_size (flip at bit) state = length_flipped at bit state.image
 
 pub after_size : (steps : List Step) (state : State) → length (after steps state).image ≡ length state.image
 unfolding after
@@ -63,11 +63,11 @@ after_size [] state = refl
 after_size (step ∷ rest) state = after_size rest (step_after step state) ∙ step_size step state
 
 module _ (image : List ℕ) (layout : Layout) where
-  pub fresh-size : length (fresh image layout).image ≡ length image
-  fresh-size = format_size image layout
+  pub fresh_size : length (fresh image layout).image ≡ length image
+  fresh_size = format_size image layout
 
-  pub store-size : (steps : List Step) → length (store image layout steps).image ≡ length image
-  store-size steps = after_size steps (fresh image layout) ∙ fresh-size
+  pub store_size : (steps : List Step) → length (store image layout steps).image ≡ length image
+  store_size steps = after_size steps (fresh image layout) ∙ fresh_size
 
 -- ---- no format is accepted
 
@@ -81,21 +81,21 @@ NoneFormats state steps =
     (before rest : List Step) (named : Layout) → steps ≡ before ++ format named ∷ rest → answers (format named) (after before state) ≡ 0 → ⊥
 
 module _ (state : State) where
-  pub first-none : (step : Step) (rest : List Step) → NoneFormats state (step ∷ rest) → NoFormat step state
+  pub first_none : (step : Step) (rest : List Step) → NoneFormats state (step ∷ rest) → NoFormat step state
   unfolding after
-  first-none step rest none named e = none [] rest named (ap (λ (x : Step). x ∷ rest) e)
+  first_none step rest none named e = none [] rest named (ap (λ (x : Step). x ∷ rest) e)
 
-  pub rest-none : (step : Step) (rest : List Step) → NoneFormats state (step ∷ rest) → NoneFormats (step_after step state) rest
+  pub rest_none : (step : Step) (rest : List Step) → NoneFormats state (step ∷ rest) → NoneFormats (step_after step state) rest
   unfolding after
-  rest-none step rest none before later named e = none (step ∷ before) later named (ap (λ (l : List Step). step ∷ l) e)
+  rest_none step rest none before later named e = none (step ∷ before) later named (ap (λ (l : List Step). step ∷ l) e)
 
-  pub front-none : (front tail : List Step) → NoneFormats state (front ++ tail) → NoneFormats state front
-  front-none front tail none before rest named e =
+  pub front_none : (front tail : List Step) → NoneFormats state (front ++ tail) → NoneFormats state front
+  front_none front tail none before rest named e =
       none before (rest ++ tail) named (ap (λ (l : List Step). l ++ tail) e ∙ append_assoc before (format named ∷ rest) tail)
 
   -- a refused format leaves the state
-  pub format-left : (named : Layout) → NoFormat (format named) state → step_after (format named) state ≡ state
-  format-left named none =
+  pub format_left : (named : Layout) → NoFormat (format named) state → step_after (format named) state ≡ state
+  format_left named none =
       let kept = (format_unchanged state.image named (none named refl)).1 in
       let same = refused_kept (formatted state.image named).number (formatted state.image named).back state.patrol (none named refl) in
       λ i. record { image = kept i; patrol = same i }
@@ -119,7 +119,7 @@ turn_layout r image = go (image_refusal (length image) r.layout)
     go (suc number) = refl
 
 pub step_layout : (step : Step) (state : State) → NoFormat step state → (step_after step state).patrol.layout ≡ state.patrol.layout
-step_layout (format layout) state none = ap (λ (new : State). new.patrol.layout) (format-left state layout none)
+step_layout (format layout) state none = ap (λ (new : State). new.patrol.layout) (format_left state layout none)
 step_layout (write layout block list) state none = refl
 step_layout (read layout block buffer) state none = refl
 step_layout (visit layout block) state none = refl
@@ -131,4 +131,4 @@ pub after_layout : (steps : List Step) (state : State) → NoneFormats state ste
 unfolding after
 after_layout [] state none = refl
 after_layout (step ∷ rest) state none =
-    after_layout rest (step_after step state) (rest-none state step rest none) ∙ step_layout step state (first-none state step rest none)
+    after_layout rest (step_after step state) (rest_none state step rest none) ∙ step_layout step state (first_none state step rest none)

@@ -17,32 +17,32 @@ use Rattle.shape.specs.declared.Shape.{Shape}
 use Rattle.shape.specs.Shape.{before}
 use Rattle.shape.proofs.Sizes.{rows_fit}
 use Rattle.stored.specs.Stored.{complemented}
-use Rattle.stored.proofs.Forms.{complemented-twice}
+use Rattle.stored.proofs.Forms.{complemented_twice}
 use Rattle.sums.specs.Words.{lane}
 use Rattle.block.specs.Block.{Fitting, Near, SameRows, data_of}
 use Rattle.block.specs.Verdict.{Said, unsaid}
 use Rattle.layout.specs.declared.Layout.{Layout}
 use Rattle.layout.specs.Layout.{shape_of, rows_of, blocks, index}
 use Rattle.layout.specs.Refusal.{block_refusal}
-use Rattle.layout.proofs.Ladder.{accepted, block-accepted, image-exact}
-use Rattle.layout.proofs.Index.{one-to-one}
+use Rattle.layout.proofs.Ladder.{accepted, block_accepted, image_exact}
+use Rattle.layout.proofs.Index.{one_to_one}
 use Rattle.layout.proofs.RowsInside.{interleaved}
 use Rattle.store.specs.declared.Answer.{Answer}
 use Rattle.store.specs.Answer.{answer_number}
 use Rattle.store.specs.Image.{stored_rows, gathered}
 use Rattle.store.specs.Read.{Reads}
 use Rattle.store.specs.Visit.{Visits, visit_answer, visit_after}
-use Rattle.store.proofs.After.{visit-untouched, visit-words}
-use Rattle.store.proofs.Image.{length-rows, rows_row, rows_words}
-use Rattle.store.proofs.Ladder.{data-accepted}
+use Rattle.store.proofs.After.{visit_untouched, visit_words_lem}
+use Rattle.store.proofs.Image.{length_rows, rows_row, rows_words}
+use Rattle.store.proofs.Ladder.{data_accepted}
 use Rattle.store.proofs.Promises.{visits}
 use Rattle.demands.specs.Demand2.{Meant, Visiting, SaysLost}
 use Rattle.demands.specs.Burst.{AllValid, Within, Reach, words_from, bytes_from, Hit, Short, Burst, RowsPair, VisitsInOrder, Comes, EveryBlock}
 use Rattle.demands.proofs.Demand2.{demand_2}
 use Rattle.demands.specs.Steps.{flipped}
-use Rattle.demands.proofs.Flips.{length-flipped, flipped-words, other-bit}
-use Rattle.demands.proofs.Index.{block_at, rowsPast, row_below, index_at, block_inside, rows_apart}
-use Rattle.demands.proofs.SameBlocks.{same-apart, same-data}
+use Rattle.demands.proofs.Flips.{length_flipped, flipped_words, other_bit}
+use Rattle.demands.proofs.Index.{block_at, rows_past, row_below, index_at, block_inside, rows_apart}
+use Rattle.demands.proofs.SameBlocks.{same_apart, same_data}
 
 -- ---- a lane of a block, some bits changed
 
@@ -58,23 +58,23 @@ module _ (layout : Layout) (image spoiled : List ℕ) (block i : ℕ) where
   abbrev offs : ℕ → Bool
   offs = diff (lane i (stored_rows layout block spoiled)) (lane i (stored_rows layout block image))
 
-  off-row : (k : ℕ) → k < rows_of layout → offs (suc k) ≡ true → Off k
-  off-row k h t same =
+  off_row : (k : ℕ) → k < rows_of layout → offs (suc k) ≡ true → Off k
+  off_row k h t same =
       let was = lane i (stored_rows layout block image) (suc k) in
       let stored : (words : List ℕ) → lane i (stored_rows layout block words) (suc k) ≡ bit i (get_or words (index layout block (suc k)) 0) =
       λ words. ap (bit i) (rows_row layout block words k h) in
       true≢false (sym t ∙ ap (λ (b : Bool). b ⊕ was) (stored spoiled ∙ same ∙ sym (stored image)) ∙ ⊕-self was)
 
   -- changed in no two rows, it is off by at most one bit
-  lone-near : ((j k : ℕ) → j < k → k < rows_of layout → Off j → Off k → ⊥)
+  lone_near : ((j k : ℕ) → j < k → k < rows_of layout → Off j → Off k → ⊥)
       → apart (before (shape_of layout)) (lane i (stored_rows layout block spoiled)) (lane i (stored_rows layout block image)) ≤ 1
-  lone-near lone = count_once (rows_of layout) offs (λ j k l h t u. lone j k l h (off-row j (omega arith) t) (off-row k h u))
+  lone_near lone = count_once (rows_of layout) offs (λ j k l h t u. lone j k l h (off_row j (omega arith) t) (off_row k h u))
 
   -- changed in s neighbouring words alone, it is too
-  pub window-near : (start : ℕ) → ((at : ℕ) → Differs i at image spoiled → Within layout.s start at)
+  pub window_near : (start : ℕ) → ((at : ℕ) → Differs i at image spoiled → Within layout.s start at)
       → apart (before (shape_of layout)) (lane i (stored_rows layout block spoiled)) (lane i (stored_rows layout block image)) ≤ 1
-  window-near start window =
-      lone-near
+  window_near start window =
+      lone_near
       (λ j k l h u v.
       omega (arith, (window (index layout block (suc j)) u).0, (window (index layout block (suc k)) v).1, rows_apart layout block j k l))
 
@@ -104,9 +104,9 @@ pub burst_flip : (reach : Reach) (image spoiled : List ℕ) (at nth : ℕ) → H
     → Burst reach image (flipped at nth spoiled)
 burst_flip reach image spoiled at nth hit burst =
     record {
-      size = length-flipped at nth spoiled ∙ burst.size;
-      words = flipped-words at nth spoiled burst.words;
-      elsewhere = λ a i ne. other-bit at nth spoiled a i (λ e f. ne (rw (e, f) hit)) ∙ burst.elsewhere a i ne;
+      size = length_flipped at nth spoiled ∙ burst.size;
+      words = flipped_words at nth spoiled burst.words;
+      elsewhere = λ a i ne. other_bit at nth spoiled a i (λ e f. ne (rw (e, f) hit)) ∙ burst.elsewhere a i ne;
     }
 
 -- no burst at all
@@ -132,18 +132,18 @@ module _ (layout : Layout) (image : List ℕ) (all : AllValid layout image) wher
   AsWas block now = SameRows shape (stored block now) (stored block image)
 
   -- a burst that changes no lane of a block in two rows
-  lone-leaves : (reach : Reach) (spoiled : List ℕ) → Burst reach image spoiled
+  lone_leaves : (reach : Reach) (spoiled : List ℕ) → Burst reach image spoiled
       → ((block j k i : ℕ) → j < k → k < rows_of layout → i < 32 → Hit reach (index layout block (suc j)) i → Hit reach (index layout block (suc k)) i
       → Differs i (index layout block (suc j)) image spoiled
       → Differs i (index layout block (suc k)) image spoiled
       → ⊥)
       → NearWas spoiled
-  lone-leaves reach spoiled burst lone =
+  lone_leaves reach spoiled burst lone =
       record {
         size = burst.size;
         words = burst.words;
         near = λ block h i low.
-            lone-near layout image spoiled block i
+            lone_near layout image spoiled block i
             (λ j k l b u v.
             lone block j k i l b low (off_hit reach image spoiled burst (index layout block (suc j)) i u)
             (off_hit reach image spoiled burst (index layout block (suc k)) i v)
@@ -151,21 +151,21 @@ module _ (layout : Layout) (image : List ℕ) (all : AllValid layout image) wher
             v);
       }
 
-  pub burst-leaves : (reach : Reach) (spoiled : List ℕ) → Short layout reach → Burst reach image spoiled → NearWas spoiled
-  burst-leaves reach spoiled short burst =
-      lone-leaves reach spoiled burst
+  pub burst_leaves : (reach : Reach) (spoiled : List ℕ) → Short layout reach → Burst reach image spoiled → NearWas spoiled
+  burst_leaves reach spoiled short burst =
+      lone_leaves reach spoiled burst
       (λ block j k i l b low first last u v.
       hits_near layout reach short (index layout block (suc j)) (index layout block (suc k)) i (rows_apart layout block j k l) first last)
 
   -- s + 1 words, where the first and the last are no two rows of a block with a bit changed in common
   module _ (start : ℕ) (spoiled : List ℕ) (burst : Burst (words_from (suc layout.s) start) image spoiled) where
-    pub wider-leaves : ((block k i : ℕ) → RowsPair layout k → i < 32 → index layout block (suc k) ≡ start
+    pub wider_leaves : ((block k i : ℕ) → RowsPair layout k → i < 32 → index layout block (suc k) ≡ start
         → Differs i start image spoiled
         → Differs i (start + layout.s) image spoiled
         → ⊥)
         → NearWas spoiled
-    wider-leaves lone =
-        lone-leaves (words_from (suc layout.s) start) spoiled burst
+    wider_leaves lone =
+        lone_leaves (words_from (suc layout.s) start) spoiled burst
         (λ block j k i l b low first last u v.
         let far = rows_apart layout block j k l in
         let at_first : index layout block (suc j) ≡ start = omega (arith, first.0, last.1, far) in
@@ -174,13 +174,13 @@ module _ (layout : Layout) (image : List ℕ) (all : AllValid layout image) wher
         (subst (λ (at : ℕ). Differs i at image spoiled) at_last v))
 
   -- from a block's last row on they are not
-  pub border-leaves : (block : ℕ) (spoiled : List ℕ) → Burst (words_from (suc layout.s) (index layout block (rows_of layout))) image spoiled
+  pub border_leaves : (block : ℕ) (spoiled : List ℕ) → Burst (words_from (suc layout.s) (index layout block (rows_of layout))) image spoiled
       → NearWas spoiled
-  border-leaves last spoiled burst =
-      wider-leaves (index layout last (rows_of layout)) spoiled burst
+  border_leaves last spoiled burst =
+      wider_leaves (index layout last (rows_of layout)) spoiled burst
       (λ block k i pair low same u v.
       let q =
-      one-to-one (rows_of layout) layout.s (interleaved layout (length image) all.fits) block (suc k) last (rows_of layout) (omega arith)
+      one_to_one (rows_of layout) layout.s (interleaved layout (length image) all.fits) block (suc k) last (rows_of layout) (omega arith)
       (omega (arith, pair))
       (omega arith)
       (omega arith)
@@ -188,17 +188,17 @@ module _ (layout : Layout) (image : List ℕ) (all : AllValid layout image) wher
       omega (arith, q.1, pair))
 
   -- where every block is as it was, the image is
-  pub all-as-was : (now : List ℕ) → length now ≡ length image → ((block : ℕ) → block < blocks layout → AsWas block now) → now ≡ image
-  all-as-was now size same =
+  pub all_as_was : (now : List ℕ) → length now ≡ length image → ((block : ℕ) → block < blocks layout → AsWas block now) → now ≡ image
+  all_as_was now size same =
       ext_get_or 0 now image size
       (λ at h.
       let first = interleaved layout (length image) all.fits in
       let block = block_at layout at in
-      let k = rowsPast layout at in
+      let k = rows_past layout at in
       let low = row_below layout at in
       let word : (words : List ℕ) → get_or words at 0 ≡ get_or (stored block words) k 0 =
       λ words. ap (λ (j : ℕ). get_or words j 0) (sym (index_at layout first at)) ∙ sym (rows_row layout block words k low) in
-      let inside = block_inside layout first at (omega (arith, image-exact layout (length image) all.fits, size, h)) in
+      let inside = block_inside layout first at (omega (arith, image_exact layout (length image) all.fits, size, h)) in
       word now ∙ same block inside k low ∙ sym (word image))
 
   -- ---- a visit
@@ -207,24 +207,24 @@ module _ (layout : Layout) (image : List ℕ) (all : AllValid layout image) wher
     meant : block < blocks layout → Meant shape (stored block now) (stored block image)
     meant h =
         record {
-          whole = rw (length-rows layout block image) (rows_fit shape);
+          whole = rw (length_rows layout block image) (rows_fit shape);
           words = rows_words layout block image all.words;
           valid = all.valid block (omega (arith, h));
           near = ok.near block h;
         }
 
     passed : block < blocks layout → block_refusal (length now) layout block ≡ 0
-    passed h = rw ok.size (block-accepted layout (length image) block all.fits h)
+    passed h = rw ok.size (block_accepted layout (length image) block all.fits h)
 
     module _ (answer : Answer) (after : List ℕ) (v : Visits now layout block answer after) where
-      pub visit-accepted : block < blocks layout → answer_number answer ≡ 0
-      visit-accepted h = v.answers.number ∙ passed h
+      pub visit_accepted : block < blocks layout → answer_number answer ≡ 0
+      visit_accepted h = v.answers.number ∙ passed h
 
       visiting : block < blocks layout → Visiting now layout block answer after
-      visiting h = demand_2.visit now layout block answer after ok.words v (visit-accepted h)
+      visiting h = demand_2.visit now layout block answer after ok.words v (visit_accepted h)
 
-      pub visit-kept : SaysLost answer → ⊥
-      visit-kept says =
+      pub visit_kept : SaysLost answer → ⊥
+      visit_kept says =
           by_cases (ℕ_discrete (block_refusal (length now) layout block) 0)
           (λ e.
           let inside = (accepted layout (length now) block e).inside in
@@ -233,30 +233,30 @@ module _ (layout : Layout) (image : List ℕ) (all : AllValid layout image) wher
           let silent = v.answers.says ∙ refused_kept (block_refusal (length now) layout block) _ unsaid ne in
           omega (arith, says, ap (λ (said : Said). said.verdict) silent))
 
-      pub visit-restores : block < blocks layout → AsWas block after
-      visit-restores h j l = sym ((visiting h).mends.only (stored block image) (meant h) j l)
+      pub visit_restores : block < blocks layout → AsWas block after
+      visit_restores h j l = sym ((visiting h).mends.only (stored block image) (meant h) j l)
 
       -- the others are as they were found
-      other-rows : (other : ℕ) → (other ≡ block → ⊥) → stored other after ≡ stored other now
+      other_rows : (other : ℕ) → (other ≡ block → ⊥) → stored other after ≡ stored other now
       unfolding gathered
-      other-rows other ne =
-          let same = ap (gathered layout other) v.leaves ∙ (visit-untouched now layout block).others other ne in
-          sym (complemented-twice (stored other after)) ∙ ap complemented same ∙ complemented-twice (stored other now)
+      other_rows other ne =
+          let same = ap (gathered layout other) v.leaves ∙ (visit_untouched now layout block).others other ne in
+          sym (complemented_twice (stored other after)) ∙ ap complemented same ∙ complemented_twice (stored other now)
 
-      pub visit-leaves : NearWas after
-      visit-leaves =
+      pub visit_leaves : NearWas after
+      visit_leaves =
           record {
-            size = ap length v.leaves ∙ (visit-untouched now layout block).size ∙ ok.size;
-            words = rw v.leaves (visit-words now layout block ok.words);
+            size = ap length v.leaves ∙ (visit_untouched now layout block).size ∙ ok.size;
+            words = rw v.leaves (visit_words_lem now layout block ok.words);
             near = λ other h.
                 by_cases (ℕ_discrete other block)
-                (λ e i l. rw e (omega (arith, same-apart shape (stored block after) (stored block image) (visit-restores (rw e at h)) i)))
-                (λ ne. rw (other-rows other ne) (ok.near other h));
+                (λ e i l. rw e (omega (arith, same_apart shape (stored block after) (stored block image) (visit_restores (rw e at h)) i)))
+                (λ ne. rw (other_rows other ne) (ok.near other h));
           }
 
-      pub visit-keeps : (other : ℕ) → other < blocks layout → AsWas other now → AsWas other after
-      visit-keeps other h same =
-          by_cases (ℕ_discrete other block) (λ e. rw e (visit-restores (rw e at h))) (λ ne. rw (other-rows other ne) same)
+      pub visit_keeps : (other : ℕ) → other < blocks layout → AsWas other now → AsWas other after
+      visit_keeps other h same =
+          by_cases (ℕ_discrete other block) (λ e. rw e (visit_restores (rw e at h))) (λ ne. rw (other_rows other ne) same)
 
     -- ---- a read
 
@@ -267,34 +267,34 @@ module _ (layout : Layout) (image : List ℕ) (all : AllValid layout image) wher
         let after = visit_after now layout block in
         let v = visits now layout block {answer = visited} {after = after} refl refl in
         let reading = demand_2.read now layout block buffer answer kept filled ok.words r z visited after v in
-        let passed = (data-accepted (length now) layout block (length buffer) (sym r.answers.number ∙ z)).0 in
+        let passed = (data_accepted (length now) layout block (length buffer) (sym r.answers.number ∙ z)).0 in
         let inside = (accepted layout (length now) block passed).inside in
-        let not-lost : SaysLost answer → ⊥ = λ says. visit-kept visited after v (subst SaysLost reading.same says) in (
-          not-lost,
-          reading.mended not-lost ∙ same-data shape (stored block after) (stored block image) (visit-restores visited after v inside),
+        let not_lost : SaysLost answer → ⊥ = λ says. visit_kept visited after v (subst SaysLost reading.same says) in (
+          not_lost,
+          reading.mended not_lost ∙ same_data shape (stored block after) (stored block image) (visit_restores visited after v inside),
         )
 
   -- ---- visits in order
 
-  pub order-leaves : (order now after : List ℕ) → NearWas now → VisitsInOrder layout order now after
+  pub order_leaves : (order now after : List ℕ) → NearWas now → VisitsInOrder layout order now after
       → NearWas after × ((block : ℕ) → block < blocks layout → Comes block order ⊎ AsWas block now → AsWas block after)
   unfolding VisitsInOrder Comes
-  order-leaves [] now after ok v = rw v (ok, λ block h. ⊎_elim (λ none. absurd none) (λ same. same))
-  order-leaves (first ∷ rest) now after ok v =
+  order_leaves [] now after ok v = rw v (ok, λ block h. ⊎_elim (λ none. absurd none) (λ same. same))
+  order_leaves (first ∷ rest) now after ok v =
       let answer = v.0 in
       let between = v.1 in
       let one = v.2 in
-      let later = order-leaves rest between after (visit-leaves now ok first answer between one) v.3 in (
+      let later = order_leaves rest between after (visit_leaves now ok first answer between one) v.3 in (
         later.0,
         λ block h.
             ⊎_elim
             (⊎_elim
-            (λ e. later.1 block h (inr (rw (← e) (visit-restores now ok first answer between one (rw e h)))))
+            (λ e. later.1 block h (inr (rw (← e) (visit_restores now ok first answer between one (rw e h)))))
             (λ comes. later.1 block h (inl comes)))
-            (λ same. later.1 block h (inr (visit-keeps now ok first answer between one block h same))),
+            (λ same. later.1 block h (inr (visit_keeps now ok first answer between one block h same))),
       )
 
-  pub order-restores : (order now after : List ℕ) → NearWas now → EveryBlock layout order → VisitsInOrder layout order now after → after ≡ image
-  order-restores order now after ok every v =
-      let left = order-leaves order now after ok v in
-      all-as-was after left.0.size (λ block h. left.1 block h (inl (every block (omega (arith, h)))))
+  pub order_restores : (order now after : List ℕ) → NearWas now → EveryBlock layout order → VisitsInOrder layout order now after → after ≡ image
+  order_restores order now after ok every v =
+      let left = order_leaves order now after ok v in
+      all_as_was after left.0.size (λ block h. left.1 block h (inl (every block (omega (arith, h)))))

@@ -13,14 +13,14 @@ use Rattle.store.specs.Visit.{visit_answer}
 use Rattle.store.proofs.Answers.{answered-number}
 
 module _ (image : List ℕ) (layout : Layout) (block : ℕ) where
-  pub write-number : (list : List ℕ) → answer_number (write_answer image layout block list) ≡ data_refusal (length image) layout block (length list)
+  pub write_number : (list : List ℕ) → answer_number (write_answer image layout block list) ≡ data_refusal (length image) layout block (length list)
   unfolding write_answer
-  write-number list = answered-number (data_refusal (length image) layout block (length list)) _ refl
+  write_number list = answered-number (data_refusal (length image) layout block (length list)) _ refl
 
   pub read_number : (buffer : List ℕ) → answer_number (read_answer image layout block buffer) ≡ data_refusal (length image) layout block (length buffer)
   unfolding read_answer
   read_number buffer = answered-number (data_refusal (length image) layout block (length buffer)) _ refl
 
-  pub visit-number : answer_number (visit_answer image layout block) ≡ block_refusal (length image) layout block
+  pub visit_number : answer_number (visit_answer image layout block) ≡ block_refusal (length image) layout block
   unfolding visit_answer
-  visit-number = answered-number (block_refusal (length image) layout block) _ refl
+  visit_number = answered-number (block_refusal (length image) layout block) _ refl

@@ -43,7 +43,7 @@ use Rattle.patrol.specs.declared.Turned.{Turned}
 use Rattle.patrol.specs.Format.{Formats}
 use Rattle.patrol.specs.Ask.{Asks}
 use Rattle.patrol.specs.Turn.{Turns}
-use Rattle.patrol.proofs.Promises.{one-asked, one-turned}
+use Rattle.patrol.proofs.Promises.{one_asked, one_turned}
 
 -- ---- ground
 
@@ -170,8 +170,8 @@ one_format image layout p q =
     (λ i. record { number = number i; back = back i }, same p.leaves q.leaves)
 
 pub one_ask : (r : Record) (block : ℕ) {a b : Asked} → Asks r block a → Asks r block b → a ≡ b
-one_ask r block p q = one-asked r block p q
+one_ask r block p q = one_asked r block p q
 
 pub one_turn : (r : Record) (image : List ℕ) {a b : Turned} {after after' : List ℕ}
     → Turns r image a after → Turns r image b after' → (a ≡ b) × (after ≡ after')
-one_turn r image p q = one-turned r image p q
+one_turn r image p q = one_turned r image p q

@@ -8,10 +8,10 @@ use native.Mathlib.Omega.{arith}
 use Rattle.ground.specs.Choice.{if_zero}
 use Rattle.rota.specs.Steps.{Step as RotaStep, ask as asks, turn as rotaTurn, other, turns as rotaTurns}
 use Rattle.rota.specs.Touches.{Touch, write as writes, read as reads, visit as visits, flip as flips, nothing, last_written as rotaWritten}
-use Rattle.rota.proofs.Runs.{turns-append}
+use Rattle.rota.proofs.Runs.{turns_append}
 use Rattle.demands.specs.Steps.{Step, format, write, read, visit, ask, turn, flip, State, step_after, after, answers, tick, turns, meant, last_written}
 use Rattle.demands.proofs.Appended.{written_append}
-use Rattle.demands.proofs.Splits.{split-append, split-none, split_one}
+use Rattle.demands.proofs.Splits.{split_append, split_none, split_one}
 
 -- a touch of the memory: data is a list of words, and a flip has an index and a bit
 abbrev pub MemoryTouch : Type 0
@@ -72,43 +72,43 @@ pub parts_turns : (steps : List Step) (state : State) → rotaTurns (all_parts s
 unfolding rotaTurns all_parts turns
 parts_turns [] state = refl
 parts_turns (step ∷ rest) state =
-    turns-append (parts step state) (all_parts rest (step_after step state))
+    turns_append (parts step state) (all_parts rest (step_after step state))
     ∙ ap (λ (count : ℕ). rotaTurns (parts step state) + count) (parts_turns rest (step_after step state))
     ∙ step_turns step state (turns rest)
 
 -- ---- data
 
 module _ (block : ℕ) where
-  call-written : (number : ℕ) (touches : List MemoryTouch) (old : List ℕ)
+  call_written : (number : ℕ) (touches : List MemoryTouch) (old : List ℕ)
       → rotaWritten block old (calls number touches) ≡ if_zero number (rotaWritten block old (map other touches)) old
   unfolding rotaWritten
-  call-written zero touches old = refl
-  call-written (suc number) touches old = refl
+  call_written zero touches old = refl
+  call_written (suc number) touches old = refl
 
   -- a call that writes nothing
-  call-unwritten : (number : ℕ) (touches : List MemoryTouch) (old : List ℕ) → rotaWritten block old (map other touches) ≡ old
+  call_unwritten : (number : ℕ) (touches : List MemoryTouch) (old : List ℕ) → rotaWritten block old (map other touches) ≡ old
       → rotaWritten block old (calls number touches) ≡ old
   unfolding rotaWritten
-  call-unwritten zero touches old e = e
-  call-unwritten (suc number) touches old e = refl
+  call_unwritten zero touches old e = e
+  call_unwritten (suc number) touches old e = refl
 
-  step-written : (step : Step) (old : List ℕ) (state : State) → rotaWritten block old (parts step state) ≡ meant block old step state
+  step_written : (step : Step) (old : List ℕ) (state : State) → rotaWritten block old (parts step state) ≡ meant block old step state
   unfolding rotaWritten
-  step-written (format layout) old state = refl
-  step-written (write layout to list) old state = call-written (answers (write layout to list) state) (writes to list ∷ []) old
-  step-written (read layout from buffer) old state = call-unwritten (answers (read layout from buffer) state) (reads from ∷ []) old refl
-  step-written (visit layout at) old state = call-unwritten (answers (visit layout at) state) (visits at ∷ []) old refl
-  step-written (ask wanted) old state = refl
-  step-written turn old state = refl
-  step-written (flip at bit) old state = refl
+  step_written (format layout) old state = refl
+  step_written (write layout to list) old state = call_written (answers (write layout to list) state) (writes to list ∷ []) old
+  step_written (read layout from buffer) old state = call_unwritten (answers (read layout from buffer) state) (reads from ∷ []) old refl
+  step_written (visit layout at) old state = call_unwritten (answers (visit layout at) state) (visits at ∷ []) old refl
+  step_written (ask wanted) old state = refl
+  step_written turn old state = refl
+  step_written (flip at bit) old state = refl
 
-  pub parts-written : (steps : List Step) (old : List ℕ) (state : State) → rotaWritten block old (all_parts steps state) ≡ last_written block old steps state
+  pub parts_written : (steps : List Step) (old : List ℕ) (state : State) → rotaWritten block old (all_parts steps state) ≡ last_written block old steps state
   unfolding rotaWritten all_parts last_written
-  parts-written [] old state = refl
-  parts-written (step ∷ rest) old state =
+  parts_written [] old state = refl
+  parts_written (step ∷ rest) old state =
       written_append block old (parts step state) (all_parts rest (step_after step state))
-      ∙ ap (λ (new : List ℕ). rotaWritten block new (all_parts rest (step_after step state))) (step-written step old state)
-      ∙ parts-written rest (meant block old step state) (step_after step state)
+      ∙ ap (λ (new : List ℕ). rotaWritten block new (all_parts rest (step_after step state))) (step_written step old state)
+      ∙ parts_written rest (meant block old step state) (step_after step state)
 
 -- ---- the step that a part is of
 
@@ -127,7 +127,7 @@ pub record PartOf (steps : List Step) (state : State) (before : List Part) (part
 pub part_of : (steps : List Step) (state : State) (before : List Part) (part : Part) (rest : List Part)
     → all_parts steps state ≡ before ++ part ∷ rest → PartOf steps state before part rest
 unfolding all_parts after
-part_of [] state before part rest e = absurd (split-none before part rest e)
+part_of [] state before part rest e = absurd (split_none before part rest e)
 part_of (step ∷ steps) state before part rest e =
     ⊎_elim
     (λ here.
@@ -157,14 +157,14 @@ part_of (step ∷ steps) state before part rest e =
           ∙ sym (append_assoc (parts step state) (all_parts r.front (step_after step state)) r.early);
       tail_is = r.tail_is;
     })
-    (split-append (parts step state) (all_parts steps (step_after step state)) before part rest e)
+    (split_append (parts step state) (all_parts steps (step_after step state)) before part rest e)
 
 -- ---- a part that is a turn
 
 -- among others there is one at least
 some_turns : (early late : List Part) → rotaTurns (early ++ rotaTurn ∷ late) ≡ rotaTurns early + suc (rotaTurns late)
 unfolding rotaTurns
-some_turns early late = turns-append early (rotaTurn ∷ late)
+some_turns early late = turns_append early (rotaTurn ∷ late)
 
 -- the step that has it is a turn, and nothing of that step comes before it
 pub turn_step : (step : Step) (state : State) (early late : List Part) → parts step state ≡ early ++ rotaTurn ∷ late → (step ≡ turn) × (early ≡ [])
@@ -201,22 +201,22 @@ Quiet (touch ∷ rest) = (made_by (other touch) ≡ []) × Quiet rest
 
 touch_quiet : (touches : List MemoryTouch) → Quiet touches → (early : List Part) (part : Part) (late : List Part)
     → map other touches ≡ early ++ part ∷ late → made_by part ≡ []
-touch_quiet [] quiet early part late e = absurd (split-none early part late e)
+touch_quiet [] quiet early part late e = absurd (split_none early part late e)
 touch_quiet (touch ∷ rest) quiet [] part late e = let same : part ≡ other touch = cc in ap made_by same ∙ quiet.0
 touch_quiet (touch ∷ rest) quiet (x ∷ early) part late e = touch_quiet rest quiet.1 early part late (cc)
 
 call_quiet : (number : ℕ) (touches : List MemoryTouch) → Quiet touches → (early : List Part) (part : Part) (late : List Part)
     → calls number touches ≡ early ++ part ∷ late → made_by part ≡ []
 call_quiet zero touches quiet early part late e = touch_quiet touches quiet early part late e
-call_quiet (suc number) touches quiet early part late e = absurd (split-none early part late e)
+call_quiet (suc number) touches quiet early part late e = absurd (split_none early part late e)
 
 -- no other step has it, and that step has no other
 module _ (part : Part) (step : Step) (makes : made_by part ≡ step ∷ []) where
   abbrev Only : Step → List Part → List Part → Type 0
   Only also early late = (also ≡ step) × (early ≡ []) × (late ≡ [])
 
-  not-quiet : {A : Type 0} → made_by part ≡ [] → A
-  not-quiet e = absurd (split-none [] step [] (sym e ∙ makes))
+  not_quiet : {A : Type 0} → made_by part ≡ [] → A
+  not_quiet e = absurd (split_none [] step [] (sym e ∙ makes))
 
   only_one : (x : Part) (also : Step) → made_by x ≡ also ∷ [] → (early late : List Part) → x ∷ [] ≡ early ++ part ∷ late → Only also early late
   only_one x also e early late f =
@@ -224,15 +224,15 @@ module _ (part : Part) (step : Step) (makes : made_by part ≡ step ∷ []) wher
       ((split_one also [] step [] (sym e ∙ ap made_by p.0 ∙ makes)).0, p.1, p.2)
 
   alone : (also : Step) (state : State) (early late : List Part) → parts also state ≡ early ++ part ∷ late → Only also early late
-  alone (format layout) state early late e = absurd (split-none early part late e)
+  alone (format layout) state early late e = absurd (split_none early part late e)
   alone (write layout block list) state early late e =
-      not-quiet (call_quiet (answers (write layout block list) state) (writes block list ∷ []) (refl, tt) early part late e)
+      not_quiet (call_quiet (answers (write layout block list) state) (writes block list ∷ []) (refl, tt) early part late e)
   alone (read layout block buffer) state early late e =
-      not-quiet (call_quiet (answers (read layout block buffer) state) (reads block ∷ []) (refl, tt) early part late e)
+      not_quiet (call_quiet (answers (read layout block buffer) state) (reads block ∷ []) (refl, tt) early part late e)
   alone (visit layout block) state early late e =
-      not-quiet (call_quiet (answers (visit layout block) state) (visits block ∷ []) (refl, tt) early part late e)
+      not_quiet (call_quiet (answers (visit layout block) state) (visits block ∷ []) (refl, tt) early part late e)
   alone (ask block) state early late e = only_one (asks block) (ask block) refl early late e
-  alone turn state early late e = not-quiet (sym (ap made_by (split_one rotaTurn early part late e).0))
+  alone turn state early late e = not_quiet (sym (ap made_by (split_one rotaTurn early part late e).0))
   alone (flip at bit) state early late e = only_one (other (flips (at, bit))) (flip at bit) refl early late e
 
   -- so a list of steps is split at that step
@@ -243,9 +243,9 @@ module _ (part : Part) (step : Step) (makes : made_by part ≡ step ∷ []) wher
     pub front_is : all_parts front state ≡ before
     pub tail_is : all_parts tail (step_after step (after front state)) ≡ rest
 
-  pub whole-step : (steps : List Step) (state : State) (before rest : List Part) → all_parts steps state ≡ before ++ part ∷ rest
+  pub whole_step : (steps : List Step) (state : State) (before rest : List Part) → all_parts steps state ≡ before ++ part ∷ rest
       → Whole steps state before rest
-  whole-step steps state before rest e =
+  whole_step steps state before rest e =
       let p = part_of steps state before part rest e in
       let q = alone p.step (after p.front state) p.early p.late p.is_part in
       record {

@@ -8,10 +8,10 @@ use Rattle.patrol.specs.declared.Formatted.{Formatted}
 use Rattle.patrol.specs.declared.Asked.{Asked}
 use Rattle.patrol.specs.declared.Turned.{Turned}
 use Rattle.store.specs.Answer.{answer_number}
-use Rattle.store.proofs.Promises.{writes, writes-answer, reads, reads-answer, visits, visits-answer}
+use Rattle.store.proofs.Promises.{writes, writes_answer, reads, reads_answer, visits, visits_answer}
 use Rattle.rota.specs.Numbers.{place_number}
 use Rattle.patrol.specs.Numbers.{report_number}
-use Rattle.patrol.proofs.Promises.{formats, formats-answer, asks, asks-answer, turns, turns-answer}
+use Rattle.patrol.proofs.Promises.{formats, formats_answer, asks, asks_answer, turns, turns_answer}
 use Rattle.demands.specs.Steps.{Step, format, write, read, visit, ask, turn, flip, State, fresh, step_after, answers}
 use Rattle.demands.specs.Promised.{Allowed, AllowedFresh}
 
@@ -21,12 +21,12 @@ same_state old new e f = λ i. record { image = e i; patrol = f i }
 
 -- no other number
 pub only_number : (step : Step) (number : ℕ) (old new : State) → Allowed step number old new → number ≡ answers step old
-only_number (format layout) number old new h = h.2 ∙ ap (λ (answer : Formatted). answer.number) (formats-answer _ _ h.1)
-only_number (write layout block list) number old new h = h.2 ∙ ap answer_number (writes-answer _ _ _ _ h.1)
-only_number (read layout block buffer) number old new h = h.3 ∙ ap answer_number (reads-answer _ _ _ _ h.2)
-only_number (visit layout block) number old new h = h.2 ∙ ap answer_number (visits-answer _ _ _ h.1)
-only_number (ask block) number old new h = h.2 ∙ ap (λ (answer : Asked). place_number answer.place) (asks-answer _ _ h.1)
-only_number turn number old new h = h.2 ∙ ap (λ (answer : Turned). report_number answer.report) (turns-answer _ _ h.1).0
+only_number (format layout) number old new h = h.2 ∙ ap (λ (answer : Formatted). answer.number) (formats_answer _ _ h.1)
+only_number (write layout block list) number old new h = h.2 ∙ ap answer_number (writes_answer _ _ _ _ h.1)
+only_number (read layout block buffer) number old new h = h.3 ∙ ap answer_number (reads_answer _ _ _ _ h.2)
+only_number (visit layout block) number old new h = h.2 ∙ ap answer_number (visits_answer _ _ _ h.1)
+only_number (ask block) number old new h = h.2 ∙ ap (λ (answer : Asked). place_number answer.place) (asks_answer _ _ h.1)
+only_number turn number old new h = h.2 ∙ ap (λ (answer : Turned). report_number answer.report) (turns_answer _ _ h.1).0
 only_number (flip index bit) number old new h = h.0
 
 -- no other state
@@ -35,20 +35,20 @@ only_allowed (format layout) number old new h =
     same_state new (step_after (format layout) old) h.1.leaves
     (h.3
     ∙ ap (λ (n : ℕ). if_zero n h.0.back old.patrol) h.2
-    ∙ ap (λ (answer : Formatted). if_zero answer.number answer.back old.patrol) (formats-answer _ _ h.1))
+    ∙ ap (λ (answer : Formatted). if_zero answer.number answer.back old.patrol) (formats_answer _ _ h.1))
 only_allowed (write layout block list) number old new h = same_state new (step_after (write layout block list) old) h.1.leaves h.3
 only_allowed (read layout block buffer) number old new h = same_state new old h.2.keeps h.4
 only_allowed (visit layout block) number old new h = same_state new (step_after (visit layout block) old) h.1.leaves h.3
 only_allowed (ask block) number old new h =
-    same_state new (step_after (ask block) old) h.3 (h.4 ∙ ap (λ (answer : Asked). answer.back) (asks-answer _ _ h.1))
+    same_state new (step_after (ask block) old) h.3 (h.4 ∙ ap (λ (answer : Asked). answer.back) (asks_answer _ _ h.1))
 only_allowed turn number old new h =
-    let did = turns-answer _ _ h.1 in
+    let did = turns_answer _ _ h.1 in
     same_state new (step_after turn old) did.1 (h.3 ∙ ap (λ (answer : Turned). answer.back) did.0)
 only_allowed (flip index bit) number old new h = same_state new (step_after (flip index bit) old) h.1 h.2
 
 pub only_fresh : (image : List ℕ) (layout : Layout) (new : State) → AllowedFresh image layout new → new ≡ fresh image layout
 only_fresh image layout new h =
-    same_state new (fresh image layout) h.1.leaves (h.2 ∙ ap (λ (answer : Formatted). answer.back) (formats-answer _ _ h.1))
+    same_state new (fresh image layout) h.1.leaves (h.2 ∙ ap (λ (answer : Formatted). answer.back) (formats_answer _ _ h.1))
 
 -- and these
 pub is_allowed : (step : Step) (old : State) → Allowed step (answers step old) old (step_after step old)

@@ -13,25 +13,25 @@ use Rattle.layout.specs.declared.Layout.{Layout}
 use Rattle.layout.specs.Layout.{shape_numbered, layout_of, rows_of, blocks}
 use Rattle.layout.specs.Refusal.{length_rung, layout_refusal, image_refusal}
 use Rattle.layout.specs.Reason.{image_rules}
-use Rattle.layout.proofs.Ladder.{image-exact, image-first}
+use Rattle.layout.proofs.Ladder.{image_exact, image_first}
 use Rattle.layout.proofs.Shapes.{shape_one, shape_two}
 use Rattle.stored.specs.Stored.{complemented_image}
-use Rattle.stored.proofs.Forms.{length-image}
+use Rattle.stored.proofs.Forms.{length_image}
 use Rattle.file.specs.declared.Written.{Written}
 use Rattle.file.specs.Bytes.{bytes_of, head_of, file_of, file_length, layout_in, word_count, words_in, image_in}
 use Rattle.file.specs.Written.{written_bytes, WritesFile}
 use Rattle.file.specs.Refusal.{long_rung, frame_refusal, body_refusal, file_refusal, read_refusal, write_refusal}
 use Rattle.file.specs.Reason.{too_long, no_room}
-use Rattle.file.proofs.Ladder.{accepted, header-image}
+use Rattle.file.proofs.Ladder.{accepted, header_image}
 use Rattle.file.proofs.Layouts.{length_words, words_layout}
-use Rattle.file.proofs.RoundTrip.{length-file, layout-back, image-back, refusal-back, file-renewed, file-back}
+use Rattle.file.proofs.RoundTrip.{length_file, layout_back, image_back, refusal_back, file_renewed, file_back}
 use Rattle.text.specs.Page.{end_to_end}
 use Rattle.report.specs.Report.{image_report, report_of}
 use Rattle.report.proofs.OneResult.{one_report}
 use Rattle.demands.specs.RoundTrip.{Read, whole, Wrote, Edge, Most, sample_image, worded_image, Headed, renewed}
 use Rattle.demands.specs.RoundTrip.{Rewritten, Again, Renewed, ReadsBack, WritesRead, PrintsSame, FileRoundTrip}
 use Rattle.demands.specs.Examples.{old_sample, new_sample}
-use Rattle.demands.proofs.Files.{accepted-lines, written_file, file_writes}
+use Rattle.demands.proofs.Files.{accepted_lines, written_file, file_writes}
 
 -- ---- what reading gives is what stands in the bytes
 
@@ -63,7 +63,7 @@ filed image layout file w =
     record {
       file_of_lem = w.file_is ∙ (written_file image layout w.buffer w.promised none).1;
       image_passed = parts.0;
-      file_passed = refusal-back layout image ∙ rw (long.0, parts.0);
+      file_passed = refusal_back layout image ∙ rw (long.0, parts.0);
     }
 
 back : ReadsBack
@@ -73,11 +73,11 @@ back image layout file w =
     let fits : length_rung (length image) layout ≡ 0 = (then_zero (layout_refusal layout) _ f.image_passed).1 in
     rw f.file_of_lem
     (record {
-      header = λ header h. (h.number ∙ f.file_passed, h.layout ∙ rw f.file_passed (layout-back layout image));
-      whole = λ header lent kept after e r. r.answers.number ∙ rw f.file_passed (ap (length_rung (length lent)) (layout-back layout image) ∙ rw e fits);
+      header = λ header h. (h.number ∙ f.file_passed, h.layout ∙ rw f.file_passed (layout_back layout image));
+      whole = λ header lent kept after e r. r.answers.number ∙ rw f.file_passed (ap (length_rung (length lent)) (layout_back layout image) ∙ rw e fits);
       same = λ named words r.
           let s = stands (file_of layout image) named words r in
-          (s.named ∙ layout-back layout image, s.words ∙ image-back layout image);
+          (s.named ∙ layout_back layout image, s.words ∙ image_back layout image);
     })
 
 -- ---- the file of what was read
@@ -88,7 +88,7 @@ unfolding write_refusal
 write_passed bytes image room e many l =
     let ok = accepted bytes e in
     let size : file_length (length image) ≡ length bytes = omega (arith, many, ok.body, ok.frame.least) in
-    let fits : image_refusal (length image) (layout_in bytes) ≡ 0 = rw many (words_layout bytes (layout_in bytes) (sym (header-image bytes e))) in
+    let fits : image_refusal (length image) (layout_in bytes) ≡ 0 = rw many (words_layout bytes (layout_in bytes) (sym (header_image bytes e))) in
     rw (fits, size, le-ltb 32768 (length bytes) ok.frame.most, le-ltb room (length bytes) l)
 
 -- what is written of what was read: the file of that image, and as long as the file that was read
@@ -100,7 +100,7 @@ rewritten bytes image buffer file e many is l {answer} {kept} {after} w =
     let none = write_passed bytes image (length buffer) e many l in
     let wrote = written_file image (layout_in bytes) buffer w none in
     let count : written_bytes answer ≡ length bytes =
-    wrote.0 ∙ length-file (layout_in bytes) image ∙ omega (arith, many, (accepted bytes e).body, (accepted bytes e).frame.least) in
+    wrote.0 ∙ length_file (layout_in bytes) image ∙ omega (arith, many, (accepted bytes e).body, (accepted bytes e).frame.least) in
     let all : take (length bytes) after ≡ file_of (layout_in bytes) image = rw (← count) wrote.1 in
     record { accepted = w.number ∙ none; count = count; is = all ∙ is; past = rw (← count) wrote.2 }
 
@@ -109,20 +109,20 @@ again bytes layout image fits version r buffer answer kept after l w =
     let s = stands bytes layout image r in
     let is : image ≡ words_in bytes = s.words ∙ rw version in
     rewritten bytes image buffer bytes s.passed (ap length is ∙ length_words bytes)
-    (ap (file_of (layout_in bytes)) is ∙ file-back bytes fits s.passed version)
+    (ap (file_of (layout_in bytes)) is ∙ file_back bytes fits s.passed version)
     l
     (rw s.named at w)
 
 -- ---- what is printed
 
 report_as : (bytes : List ℕ) (layout : Layout) (image : List ℕ) → Stands bytes layout image → report_of bytes ≡ image_report image layout
-report_as bytes layout image s = rw (s.named, s.words) (accepted-lines bytes s.passed)
+report_as bytes layout image s = rw (s.named, s.words) (accepted_lines bytes s.passed)
 
 printed : PrintsSame
 printed image layout file w =
     let f = filed image layout file w in
     let own : report_of file ≡ image_report image layout = report_as file layout image (rw f.file_of_lem
-    (record { passed = f.file_passed; named = sym (layout-back layout image); words = sym (image-back layout image) })) in
+    (record { passed = f.file_passed; named = sym (layout_back layout image); words = sym (image_back layout image) })) in
     record {
       report = λ out end left i. i.whole ∙ ap end_to_end own;
       same = λ bytes out end left end' left' r i j.
@@ -139,9 +139,9 @@ new bytes layout image fits version r buffer answer kept after l w =
     let s = stands bytes layout image r in
     let code = complemented_image (layout_in bytes) (words_in bytes) in
     let is : image ≡ code = s.words ∙ rw version in
-    let many : length image ≡ word_count (length bytes) = ap length is ∙ length-image (layout_in bytes) (words_in bytes) ∙ length_words bytes in
+    let many : length image ≡ word_count (length bytes) = ap length is ∙ length_image (layout_in bytes) (words_in bytes) ∙ length_words bytes in
     let renews : file_of (layout_in bytes) image ≡ renewed bytes =
-    file-renewed bytes fits s.passed image many ∙ ap (λ (words : List ℕ). 2 ∷ take 8 (drop 1 bytes) ++ bytes_of words) is in
+    file_renewed bytes fits s.passed image many ∙ ap (λ (words : List ℕ). 2 ∷ take 8 (drop 1 bytes) ++ bytes_of words) is in
     let written = rewritten bytes image buffer (renewed bytes) s.passed many renews l (rw s.named at w) in
     let filed : Wrote image layout (renewed bytes) =
     record {
@@ -188,7 +188,7 @@ edge shape most words bytes none size twelve eleven =
     record {
       exactly = λ image buffer answer kept after e l w.
           let passed : write_refusal (length image) (layout_of shape 1 most) (length buffer) ≡ 0 = rw (e, l) none in
-          (w.number ∙ passed, (written_file image (layout_of shape 1 most) buffer w passed).0 ∙ length-file (layout_of shape 1 most) image ∙ rw e size);
+          (w.number ∙ passed, (written_file image (layout_of shape 1 most) buffer w passed).0 ∙ length_file (layout_of shape 1 most) image ∙ rw e size);
       shorter = λ image buffer answer kept after e l w. w.number ∙ rw e (twelve (length buffer) l);
       larger = λ image buffer answer kept after e w. w.number ∙ rw e (eleven (length buffer));
     }
@@ -202,9 +202,9 @@ most_by shape rows most tall above below image layout buffer answer kept after e
     let d = (file_writes image layout buffer answer kept after w).ruled.exactly (image_rules (length image) layout) (no_room (file_of layout image) buffer ∷ [])
     (too_long (file_of layout image))
     refl in
-    let exact = image-exact layout (length image) ((ruled (image_rules (length image) layout) _ tt (image-first layout (length image))).accepted.1 none) in
+    let exact = image_exact layout (length image) ((ruled (image_rules (length image) layout) _ tt (image_first layout (length image))).accepted.1 none) in
     let size : length (file_of layout image) ≡ 9 + 4 * (rows * blocks layout) =
-    length-file layout image ∙ ap (λ (n : ℕ). 9 + 4 * n) (exact ∙ ap (λ (k : ℕ). k * blocks layout) (tall layout e)) in (
+    length_file layout image ∙ ap (λ (n : ℕ). 9 + 4 * n) (exact ∙ ap (λ (k : ℕ). k * blocks layout) (tall layout e)) in (
       λ n. above (blocks layout) (rw (← size) (d.0 n).1),
       λ l. d.1 (none, rw size (below (blocks layout) l)),
     )

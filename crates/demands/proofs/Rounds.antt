@@ -31,21 +31,21 @@ use Rattle.demands.specs.Steps.{Step, format, write, read, visit, ask, turn, fli
 use Rattle.demands.specs.Burst.{AllValid, Reach, Burst, Each, FlipOf, Quiet, Sparked}
 use Rattle.demands.proofs.Demand2.{demand_2}
 use Rattle.demands.proofs.Demand3.{demand_3}
-use Rattle.demands.proofs.Lasting.{NoneFormats, store-size, step_layout, after_layout}
+use Rattle.demands.proofs.Lasting.{NoneFormats, store_size, step_layout, after_layout}
 use Rattle.demands.proofs.NearWas.{
   burst_flip,
   burst_none,
   NearWas,
   AsWas,
-  burst-leaves,
-  all-as-was,
-  visit-kept,
-  visit-restores,
-  visit-leaves,
-  visit-keeps,
+  burst_leaves,
+  all_as_was,
+  visit_kept,
+  visit_restores,
+  visit_leaves,
+  visit_keeps,
   read_kept,
 }
-use Rattle.demands.proofs.Splits.{split-append}
+use Rattle.demands.proofs.Splits.{split_append}
 
 -- where each is such, so is each after the first
 each_rest : (Such : Step → Type 0) (step : Step) (rest : List Step) → Each Such (step ∷ rest) → Each Such rest
@@ -77,53 +77,53 @@ module _ (layout : Layout) (image : List ℕ) (all : AllValid layout image) wher
   Leaves now left =
       NearWas layout image all left × ((block : ℕ) → block < blocks layout → AsWas layout image all block now → AsWas layout image all block left)
 
-  leaves-same : (now : List ℕ) → NearWas layout image all now → Leaves now now
-  leaves-same now ok = (ok, λ block h same. same)
+  leaves_same : (now : List ℕ) → NearWas layout image all now → Leaves now now
+  leaves_same now ok = (ok, λ block h same. same)
 
   visited : (now : List ℕ) (block : ℕ) → Visits now layout block (visit_answer now layout block) (visit_after now layout block)
   visited now block = visits now layout block refl refl
 
-  leaves-visit : (now : List ℕ) (block : ℕ) → NearWas layout image all now → Leaves now (visit_after now layout block)
-  leaves-visit now block ok = (
-    visit-leaves layout image all now ok block (visit_answer now layout block) (visit_after now layout block) (visited now block),
-    visit-keeps layout image all now ok block (visit_answer now layout block) (visit_after now layout block) (visited now block),
+  leaves_visit : (now : List ℕ) (block : ℕ) → NearWas layout image all now → Leaves now (visit_after now layout block)
+  leaves_visit now block ok = (
+    visit_leaves layout image all now ok block (visit_answer now layout block) (visit_after now layout block) (visited now block),
+    visit_keeps layout image all now ok block (visit_answer now layout block) (visit_after now layout block) (visited now block),
   )
 
-  leaves-due : (d : Due) (now : List ℕ) → NearWas layout image all now → Leaves now (patrolled layout now d)
-  leaves-due (NoneDue number) now ok = leaves-same now ok
-  leaves-due (OneDue first) now ok = leaves-visit now first ok
-  leaves-due (TwoDue first second) now ok =
-      let one = leaves-visit now first ok in
-      let two = leaves-visit (visit_after now layout first) second one.0 in (two.0, λ block h same. two.1 block h (one.1 block h same))
+  leaves_due : (d : Due) (now : List ℕ) → NearWas layout image all now → Leaves now (patrolled layout now d)
+  leaves_due (NoneDue number) now ok = leaves_same now ok
+  leaves_due (OneDue first) now ok = leaves_visit now first ok
+  leaves_due (TwoDue first second) now ok =
+      let one = leaves_visit now first ok in
+      let two = leaves_visit (visit_after now layout first) second one.0 in (two.0, λ block h same. two.1 block h (one.1 block h same))
 
-  leaves-turn : (r : Record) (now : List ℕ) → r.layout ≡ layout → NearWas layout image all now → Leaves now (turn_after r now)
+  leaves_turn : (r : Record) (now : List ℕ) → r.layout ≡ layout → NearWas layout image all now → Leaves now (turn_after r now)
   unfolding turn_after
-  leaves-turn r now names ok = go (image_refusal (length now) r.layout)
+  leaves_turn r now names ok = go (image_refusal (length now) r.layout)
     where
       go : (number : ℕ) → Leaves now (if_zero number (patrolled r.layout now (turned_now r).due) now)
-      go zero = subst (λ (l : Layout). Leaves now (patrolled l now (turned_now r).due)) (sym names) (leaves-due (turned_now r).due now ok)
-      go (suc number) = leaves-same now ok
+      go zero = subst (λ (l : Layout). Leaves now (patrolled l now (turned_now r).due)) (sym names) (leaves_due (turned_now r).due now ok)
+      go (suc number) = leaves_same now ok
 
   -- ---- quiet steps
 
-  leaves-step : (step : Step) (state : State) → Quiet layout step → state.patrol.layout ≡ layout → NearWas layout image all state.image
+  leaves_step : (step : Step) (state : State) → Quiet layout step → state.patrol.layout ≡ layout → NearWas layout image all state.image
       → Leaves state.image (step_after step state).image
-  leaves-step (format named) state quiet names ok = absurd quiet
-  leaves-step (write named block list) state quiet names ok = absurd quiet
-  leaves-step (read named block buffer) state quiet names ok = leaves-same state.image ok
-  leaves-step (visit named block) state quiet names ok =
-      subst (λ (l : Layout). Leaves state.image (visit_after state.image l block)) (sym quiet) (leaves-visit state.image block ok)
-  leaves-step (ask block) state quiet names ok = leaves-same state.image ok
-  leaves-step turn state quiet names ok = leaves-turn state.patrol state.image names ok
-  leaves-step (flip at bit) state quiet names ok = absurd quiet
+  leaves_step (format named) state quiet names ok = absurd quiet
+  leaves_step (write named block list) state quiet names ok = absurd quiet
+  leaves_step (read named block buffer) state quiet names ok = leaves_same state.image ok
+  leaves_step (visit named block) state quiet names ok =
+      subst (λ (l : Layout). Leaves state.image (visit_after state.image l block)) (sym quiet) (leaves_visit state.image block ok)
+  leaves_step (ask block) state quiet names ok = leaves_same state.image ok
+  leaves_step turn state quiet names ok = leaves_turn state.patrol state.image names ok
+  leaves_step (flip at bit) state quiet names ok = absurd quiet
 
   leaves_quiet : (steps : List Step) (state : State) → Each (Quiet layout) steps → state.patrol.layout ≡ layout → NearWas layout image all state.image
       → ((after steps state).patrol.layout ≡ layout) × Leaves state.image (after steps state).image
   unfolding after
-  leaves_quiet [] state each names ok = (names, leaves-same state.image ok)
+  leaves_quiet [] state each names ok = (names, leaves_same state.image ok)
   leaves_quiet (step ∷ rest) state each names ok =
       let quiet = each [] rest step refl in
-      let one = leaves-step step state quiet names ok in
+      let one = leaves_step step state quiet names ok in
       let named = step_layout step state (λ other e z. subst (Quiet layout) e quiet) ∙ names in
       let later = leaves_quiet rest (step_after step state) (each_rest (Quiet layout) step rest each) named one.0 in (
         later.0,
@@ -154,25 +154,25 @@ module _ (layout : Layout) (image : List ℕ) (all : AllValid layout image) wher
         (visited between block) in
         let both = passes.asked block rest e (visit_answer between layout block) (visit_after between layout block) visit in (both.1, both.2)
 
-    pub turn-restores : (block : ℕ) → block < blocks layout → (report_first answer.report).block ≡ block → AsWas layout image all block left
-    turn-restores block h e = go (asks_of r.rota.line) refl
+    pub turn_restores : (block : ℕ) → block < blocks layout → (report_first answer.report).block ≡ block → AsWas layout image all block left
+    turn_restores block h e = go (asks_of r.rota.line) refl
       where
         is : next ≡ block
         is = ap (λ (s : Seen). s.block) (sym passes.first) ∙ e
 
         mid : AsWas layout image all block between
         mid = subst (λ (b : ℕ). AsWas layout image all b between) is
-            (visit-restores layout image all now ok next (visit_answer now layout next) between (visited now next) (rw is h))
+            (visit_restores layout image all now ok next (visit_answer now layout next) between (visited now next) (rw is h))
 
         go : (l : List ℕ) → asks_of r.rota.line ≡ l → AsWas layout image all block left
         go [] q = subst (AsWas layout image all block) (sym (passes.alone q).1) mid
         go (other ∷ rest) q =
-            subst (AsWas layout image all block) (sym (served other rest q).1) ((leaves-visit between other (leaves-visit now next ok).0).1 block h mid)
+            subst (AsWas layout image all block) (sym (served other rest q).1) ((leaves_visit between other (leaves_visit now next ok).0).1 block h mid)
 
-    pub turn-kept : ((report_first answer.report).said.verdict ≡ 3 → ⊥) × ((report_second answer.report).said.verdict ≡ 3 → ⊥)
-    turn-kept = (
+    pub turn_kept : ((report_first answer.report).said.verdict ≡ 3 → ⊥) × ((report_second answer.report).said.verdict ≡ 3 → ⊥)
+    turn_kept = (
       λ says.
-          visit-kept layout image all now ok next (visit_answer now layout next) between (visited now next)
+          visit_kept layout image all now ok next (visit_answer now layout next) between (visited now next)
           (ap (λ (s : Seen). s.said.verdict) (sym passes.first) ∙ says),
       second (asks_of r.rota.line) refl,
     )
@@ -180,7 +180,7 @@ module _ (layout : Layout) (image : List ℕ) (all : AllValid layout image) wher
         second : (l : List ℕ) → asks_of r.rota.line ≡ l → (report_second answer.report).said.verdict ≡ 3 → ⊥
         second [] q says = let z = ap (λ (s : Seen). s.said.verdict) (passes.alone q).0 in omega arith
         second (other ∷ rest) q says =
-            visit-kept layout image all between (leaves-visit now next ok).0 other (visit_answer between layout other) (visit_after between layout other)
+            visit_kept layout image all between (leaves_visit now next ok).0 other (visit_answer between layout other) (visit_after between layout other)
             (visited between other)
             (ap (λ (s : Seen). s.said.verdict) (sym (served other rest q).0) ∙ says)
 
@@ -198,7 +198,7 @@ none_added state before more none others front tail named e accepted =
     ⊎_elim
     (λ r. none front r.0 named r.1 accepted)
     (λ r. others named r.0 tail (format named) r.2 refl)
-    (split-append before more front (format named) tail e)
+    (split_append before more front (format named) tail e)
 
 flip_no_format : (reach : Reach) (step : Step) → FlipOf reach step → (named : Layout) → step ≡ format named → ⊥
 flip_no_format reach step f named e = let same = sym f.2 ∙ e in let z : ◌≡◌ {A = ℕ} 0 1 = cc in omega arith
@@ -211,57 +211,57 @@ module _ (image : List ℕ) (layout : Layout) (before spark since : List Step) (
   struck = after spark (store image layout before)
 
   fits : image_refusal (length image) layout ≡ 0
-  fits = ap (λ (n : ℕ). image_refusal n layout) (sym (store-size image layout before)) ∙ sparked.valid.fits
+  fits = ap (λ (n : ℕ). image_refusal n layout) (sym (store_size image layout before)) ∙ sparked.valid.fits
 
   struck_near : NearWas layout was sparked.valid struck.image
   struck_near =
-      burst-leaves layout was sparked.valid sparked.reach struck.image sparked.short
+      burst_leaves layout was sparked.valid sparked.reach struck.image sparked.short
       (flips_burst sparked.reach was spark (store image layout before) sparked.flips (burst_none sparked.reach was sparked.valid.words))
 
-  struck-unformatted : NotFormatted image layout (before ++ spark)
-  struck-unformatted =
+  struck_unformatted : NotFormatted image layout (before ++ spark)
+  struck_unformatted =
       none_added (fresh image layout) before spark sparked.unformatted
       (λ named first rest step e. flip_no_format sparked.reach step (sparked.flips first rest step e) named)
 
   unformatted : NotFormatted image layout (before ++ spark ++ since)
   unformatted =
-      none_added (fresh image layout) (before ++ spark) since struck-unformatted
+      none_added (fresh image layout) (before ++ spark) since struck_unformatted
       (λ named first rest step e q. subst (Quiet layout) q (sparked.quiet first rest step e))
 
   -- the store after the spark, and after steps since
-  since-is : (steps : List Step) → store image layout (before ++ spark ++ steps) ≡ after steps struck
-  since-is steps =
+  since_is : (steps : List Step) → store image layout (before ++ spark ++ steps) ≡ after steps struck
+  since_is steps =
       after_append (before ++ spark) steps (fresh image layout) ∙ ap (after steps) (after_append before spark (fresh image layout))
 
-  struck-names : struck.patrol.layout ≡ layout
+  struck_names : struck.patrol.layout ≡ layout
   unfolding formatted
-  struck-names =
+  struck_names =
       ap (λ (s : State). s.patrol.layout) (sym (after_append before spark (fresh image layout)))
-      ∙ after_layout (before ++ spark) (fresh image layout) struck-unformatted
+      ∙ after_layout (before ++ spark) (fresh image layout) struck_unformatted
       ∙ rw fits
 
   -- what is left at the end
-  left-since : ((after since struck).patrol.layout ≡ layout) × Leaves layout was sparked.valid struck.image (after since struck).image
-  left-since = leaves_quiet layout was sparked.valid since struck sparked.quiet struck-names struck_near
+  left_since : ((after since struck).patrol.layout ≡ layout) × Leaves layout was sparked.valid struck.image (after since struck).image
+  left_since = leaves_quiet layout was sparked.valid since struck sparked.quiet struck_names struck_near
 
   -- the block that a turn since then visits is as it was at the end
-  visited-as-was : (first rest : List Step) → since ≡ first ++ turn ∷ rest → (block : ℕ) → block < blocks layout
+  visited_as_was : (first rest : List Step) → since ≡ first ++ turn ∷ rest → (block : ℕ) → block < blocks layout
       → ((answer : Turned) (left : List ℕ)
       → Turns (store image layout (before ++ spark ++ first)).patrol (store image layout (before ++ spark ++ first)).image answer left
       → PatrolVisits block answer.report)
       → AsWas layout was sparked.valid block (after since struck).image
   unfolding after
-  visited-as-was first rest e block inside reports =
+  visited_as_was first rest e block inside reports =
       let each = each_split (Quiet layout) since first rest turn sparked.quiet e in
       let now = after first struck in
-      let early = leaves_quiet layout was sparked.valid first struck each.0 struck-names struck_near in
+      let early = leaves_quiet layout was sparked.valid first struck each.0 struck_names struck_near in
       let answer = turned now.patrol now.image in
       let left = turn_after now.patrol now.image in
       let p = turned-allowed now.patrol now.image {answer = answer} {after = left} refl refl in
-      let seen = reports answer left (subst (λ (s : State). Turns s.patrol s.image answer left) (sym (since-is first)) p) in
+      let seen = reports answer left (subst (λ (s : State). Turns s.patrol s.image answer left) (sym (since_is first)) p) in
       let same =
-      turn-restores layout was sparked.valid now.patrol now.image early.0 early.1.0 answer left p seen.0 block inside seen.1.0 in
-      let one = leaves-step layout was sparked.valid turn now tt early.0 early.1.0 in
+      turn_restores layout was sparked.valid now.patrol now.image early.0 early.1.0 answer left p seen.0 block inside seen.1.0 in
+      let one = leaves_step layout was sparked.valid turn now tt early.0 early.1.0 in
       let named = step_layout turn now (λ other q z. let n : ◌≡◌ {A = ℕ} 0 1 = cc in omega arith) ∙ early.0 in
       let late = leaves_quiet layout was sparked.valid rest (step_after turn now) each.1 named one.0 in
       subst (λ (s : State). AsWas layout was sparked.valid block s.image)
@@ -270,25 +270,25 @@ module _ (image : List ℕ) (layout : Layout) (before spark since : List Step) (
 
   pub round : blocks layout ≤ turns since → (store image layout (before ++ spark ++ since)).image ≡ was
   round enough =
-      ap (λ (s : State). s.image) (since-is since)
-      ∙ all-as-was layout was sparked.valid (after since struck).image left-since.1.0.size
+      ap (λ (s : State). s.image) (since_is since)
+      ∙ all_as_was layout was sparked.valid (after since struck).image left_since.1.0.size
       (λ block inside.
       let found = demand_3.every_block_visited image layout fits (before ++ spark) since unformatted enough block inside in
-      visited-as-was found.0 found.1 found.2 block inside found.3)
+      visited_as_was found.0 found.1 found.2 block inside found.3)
 
-  pub turns-kept : (answer : Turned) (left : List ℕ)
+  pub turns_kept : (answer : Turned) (left : List ℕ)
       → Turns (store image layout (before ++ spark ++ since)).patrol (store image layout (before ++ spark ++ since)).image answer left
       → ((report_first answer.report).said.verdict ≡ 3 → ⊥) × ((report_second answer.report).said.verdict ≡ 3 → ⊥)
-  turns-kept answer left p =
+  turns_kept answer left p =
       let now = after since struck in
-      turn-kept layout was sparked.valid now.patrol now.image left-since.0 left-since.1.0 answer left
-      (subst (λ (s : State). Turns s.patrol s.image answer left) (since-is since) p)
+      turn_kept layout was sparked.valid now.patrol now.image left_since.0 left_since.1.0 answer left
+      (subst (λ (s : State). Turns s.patrol s.image answer left) (since_is since) p)
       (demand_3.turns_accepted image layout fits (before ++ spark ++ since) unformatted answer left p)
 
-  pub round-read : (block : ℕ) (buffer : List ℕ) (answer : Answer) (kept filled : List ℕ)
+  pub round_read : (block : ℕ) (buffer : List ℕ) (answer : Answer) (kept filled : List ℕ)
       → Reads (store image layout (before ++ spark ++ since)).image layout block buffer answer kept filled
       → answer_number answer ≡ 0
       → (SaysLost answer → ⊥) × (filled ≡ data_of (shape_of layout) (stored_rows layout block was))
-  round-read block buffer answer kept filled p =
-      read_kept layout was sparked.valid (after since struck).image left-since.1.0 block buffer answer kept filled
-      (subst (λ (s : State). Reads s.image layout block buffer answer kept filled) (since-is since) p)
+  round_read block buffer answer kept filled p =
+      read_kept layout was sparked.valid (after since struck).image left_since.1.0 block buffer answer kept filled
+      (subst (λ (s : State). Reads s.image layout block buffer answer kept filled) (since_is since) p)

@@ -14,12 +14,12 @@ use Rattle.shape.specs.declared.Shape.{Shape}
 use Rattle.shape.specs.Shape.{before, rows, words}
 use Rattle.sums.specs.Words.{row, lane}
 use Rattle.block.specs.Block.{data_of, SameRows}
-use Rattle.block.proofs.Data.{dataRow, entry_row}
+use Rattle.block.proofs.Data.{row_of_data, entry_row}
 
 module _ (shape : Shape) (a b : List ℕ) where
   -- in every lane they are not apart
-  pub same-apart : SameRows shape a b → (i : ℕ) → apart (before shape) (lane i a) (lane i b) ≡ 0
-  same-apart h i =
+  pub same_apart : SameRows shape a b → (i : ℕ) → apart (before shape) (lane i a) (lane i b) ≡ 0
+  same_apart h i =
       count_same (rows shape) (diff (lane i a) (lane i b)) (λ p. false)
       (λ j l. ap (λ (w : ℕ). bit i w ⊕ bit i (get_or b j 0)) (h j l) ∙ ⊕-self (bit i (get_or b j 0)))
       ∙ count_empty (rows shape)
@@ -29,8 +29,8 @@ module _ (shape : Shape) (a b : List ℕ) where
   same_row h (suc j) l m = h j (omega arith)
 
   -- they hold the same data
-  pub same-data : SameRows shape a b → data_of shape a ≡ data_of shape b
+  pub same_data : SameRows shape a b → data_of shape a ≡ data_of shape b
   unfolding data_of
-  same-data h =
-      list_of_same (words shape) (λ k. row (dataRow shape k) a) (λ k. row (dataRow shape k) b)
-      (λ k l. let d = entry_row shape k l in same_row h (dataRow shape k) d.first d.last)
+  same_data h =
+      list_of_same (words shape) (λ k. row (row_of_data shape k) a) (λ k. row (row_of_data shape k) b)
+      (λ k l. let d = entry_row shape k l in same_row h (row_of_data shape k) d.first d.last)

@@ -33,7 +33,7 @@ use Rattle.demands.specs.Steps.{State, fresh, flipped, step_after, after, answer
 use Rattle.demands.specs.Demand2.{SaysLost}
 use Rattle.demands.specs.Demand3.{PatrolVisits, AskVisits, NotFormatted, FormatAccepted}
 use Rattle.demands.proofs.Demand3.{demand_3}
-use Rattle.demands.proofs.Lasting.{front-none}
+use Rattle.demands.proofs.Lasting.{front_none}
 use Rattle.demands.proofs.Needed.{ours, lent, small, sevens, one_first, all_ones, Keeps}
 use Rattle.demands.proofs.Tests.{every?, every, meets}
 
@@ -133,7 +133,7 @@ none : NotFormatted lent ours steps
 none = computed.hypotheses.all.1.1.1.0
 
 none_begun : NotFormatted lent ours begun
-none_begun = front-none origin begun (read ours 1 sevens ∷ ended) none
+none_begun = front_none origin begun (read ours 1 sevens ∷ ended) none
 
 -- a read that is accepted gives what was last written
 read_right : (before rest : List Step) (block : ℕ) → steps ≡ before ++ read ours block sevens ∷ rest → answers (read ours block sevens) (small before) ≡ 0
@@ -159,7 +159,7 @@ shown =
     record {
       accepted = λ before rest e.
           demand_3.turns_accepted lent ours computed.formatted_first before
-          (front-none origin before (turn ∷ rest) (subst (NotFormatted lent ours) e none))
+          (front_none origin before (turn ∷ rest) (subst (NotFormatted lent ours) e none))
           _
           _
           (turned_so (small before));
@@ -168,7 +168,7 @@ shown =
           demand_3.every_block_visited lent ours computed.formatted_first [] begun none_begun (rw computed.two (omega arith)) block l in
           (found.0, found.1, found.2, found.3 _ _ (turned_so (small found.0)));
       served = demand_3.ask_served lent ours start [] 1
-          (front-none origin (start ++ ask 1 ∷ [])
+          (front_none origin (start ++ ask 1 ∷ [])
           (turn ∷ write ours 1 one_first ∷ visit ours 0 ∷ refused ++ turn ∷ flip 24 3 ∷ read ours 1 sevens ∷ ended)
           none)
           _

@@ -14,7 +14,7 @@ use Rattle.block.proofs.ByWords.{fit?, fit_each}
 use Rattle.demands.specs.Steps.{Step, format, write, read, visit, ask, turn, flip, State, fresh, step_after, after, answers, tick, turns}
 use Rattle.demands.specs.Demand3.{SameLayout, WordsWritten, RowOf, NotFormatted, OneLayout, FlipsSpaced}
 use Rattle.demands.proofs.Index.{block_at, only_at}
-use Rattle.demands.proofs.Splits.{split-none}
+use Rattle.demands.proofs.Splits.{split_none}
 
 -- ---- every step of a list passes a test, which sees what the steps before it have made, and the steps after it
 
@@ -28,14 +28,14 @@ module _ {Made : Type 0} (next : Step → Made → Made) where
     every? [] m = true
     every? (step ∷ rest) m = test step m rest && every? rest (next step m)
 
-    every-passes : (steps : List Step) (m : Made) → every? steps m ≡ true → (before : List Step) (step : Step) (rest : List Step)
+    every_passes : (steps : List Step) (m : Made) → every? steps m ≡ true → (before : List Step) (step : Step) (rest : List Step)
         → steps ≡ before ++ step ∷ rest
         → test step (made before m) rest ≡ true
     unfolding made every?
-    every-passes [] m t before step rest e = absurd (split-none before step rest e)
-    every-passes (x ∷ l) m t [] step rest e = let here = (both (test x m l) (every? l (next x m)) t).0 in cc
-    every-passes (x ∷ l) m t (y ∷ before) step rest e =
-        let later = every-passes l (next x m) (both (test x m l) (every? l (next x m)) t).1 before step rest (cc) in
+    every_passes [] m t before step rest e = absurd (split_none before step rest e)
+    every_passes (x ∷ l) m t [] step rest e = let here = (both (test x m l) (every? l (next x m)) t).0 in cc
+    every_passes (x ∷ l) m t (y ∷ before) step rest e =
+        let later = every_passes l (next x m) (both (test x m l) (every? l (next x m)) t).1 before step rest (cc) in
         cc
 
 made_after : (steps : List Step) (state : State) → made step_after steps state ≡ after steps state
@@ -48,7 +48,7 @@ module _ (test : Step → State → List Step → Bool) where
   stands : (steps : List Step) (state : State) → every? step_after test steps state ≡ true → (before : List Step) (step : Step) (rest : List Step)
       → steps ≡ before ++ step ∷ rest
       → test step (after before state) rest ≡ true
-  stands steps state t before step rest e = rw (← made_after before state) (every-passes step_after test steps state t before step rest e)
+  stands steps state t before step rest e = rw (← made_after before state) (every_passes step_after test steps state t before step rest e)
 
 -- what is asked of a call that is accepted
 settled : (number : ℕ) (t : Bool) → if_zero number t true ≡ true → number ≡ 0 → t ≡ true
@@ -88,8 +88,8 @@ module _ (layout : Layout) where
   names turn t = tt
   names (flip at bit) t = tt
 
-  abbrev pub namesIt? : Step → State → List Step → Bool
-  namesIt? step state rest = if_zero (answers step state) (names? step) true
+  abbrev pub names_it? : Step → State → List Step → Bool
+  names_it? step state rest = if_zero (answers step state) (names? step) true
 
 -- ---- no format is accepted
 
@@ -157,44 +157,44 @@ same_lane a b false u p q e = absurd (false≢true p)
 -- ---- the hypotheses, each where its test passes
 
 module _ (image : List ℕ) (layout : Layout) (steps : List Step) where
-  abbrev pub oneLayout? : Bool
-  oneLayout? = every? step_after (namesIt? layout) steps (fresh image layout)
+  abbrev pub one_layout? : Bool
+  one_layout? = every? step_after (names_it? layout) steps (fresh image layout)
 
-  abbrev pub wordsWritten? : Bool
-  wordsWritten? = every? step_after fits? steps (fresh image layout)
+  abbrev pub words_written? : Bool
+  words_written? = every? step_after fits? steps (fresh image layout)
 
-  abbrev pub flipsSpaced? : Bool
-  flipsSpaced? = leb 1 layout.s && every? step_after (apart? layout) steps (fresh image layout)
+  abbrev pub flips_spaced? : Bool
+  flips_spaced? = leb 1 layout.s && every? step_after (apart? layout) steps (fresh image layout)
 
-  abbrev pub notFormatted? : Bool
-  notFormatted? = every? step_after refused? steps (fresh image layout)
+  abbrev pub not_formatted? : Bool
+  not_formatted? = every? step_after refused? steps (fresh image layout)
 
-  pub one-layout : oneLayout? ≡ true → OneLayout image layout steps
-  one-layout t before rest step e a =
+  pub one_layout : one_layout? ≡ true → OneLayout image layout steps
+  one_layout t before rest step e a =
       names layout step
       (settled (answers step (after before (fresh image layout))) (names? layout step)
-      (stands (namesIt? layout) steps (fresh image layout) t before step rest e)
+      (stands (names_it? layout) steps (fresh image layout) t before step rest e)
       a)
 
-  pub words-written : wordsWritten? ≡ true → WordsWritten steps
-  words-written t before rest named block list e = fit_each list (stands fits? steps (fresh image layout) t before (write named block list) rest e)
+  pub words_written : words_written? ≡ true → WordsWritten steps
+  words_written t before rest named block list e = fit_each list (stands fits? steps (fresh image layout) t before (write named block list) rest e)
 
-  pub flips-spaced : flipsSpaced? ≡ true → FlipsSpaced image layout steps
-  flips-spaced t before between rest at also bit block e first second =
+  pub flips_spaced : flips_spaced? ≡ true → FlipsSpaced image layout steps
+  flips_spaced t before between rest at also bit block e first second =
       let p = both (leb 1 layout.s) _ t in
       let s = leb-true 1 layout.s p.0 in
       let same = sym (row_block s block also second) ∙ row_block s block at first in
       let passes = stands (apart? layout) steps (fresh image layout) p.1 before (flip at bit) (between ++ flip also bit ∷ rest)
       (e ∙ append_assoc before (flip at bit ∷ between) (flip also bit ∷ rest)) in
-      let late = every-passes tick (later? layout at bit) (between ++ flip also bit ∷ rest) 0 passes between (flip also bit) rest refl in
+      let late = every_passes tick (later? layout at bit) (between ++ flip also bit ∷ rest) 0 passes between (flip also bit) rest refl in
       omega (arith, same_lane (blocks layout) (made tick between 0) _ _ (eq-eqb bit bit refl) (eq-eqb _ _ same) late, made_turns between 0)
     where
       row_block : 1 ≤ layout.s → (block at : ℕ) → RowOf layout block at → block ≡ block_at layout at
       row_block s block at (zero, l, h, e) = absurd (omega arith)
       row_block s block at (suc k, l, h, e) = (only_at layout s at block k (omega arith) (sym e)).0
 
-  pub not-formatted : notFormatted? ≡ true → NotFormatted image layout steps
-  not-formatted t before rest named e a =
+  pub not_formatted : not_formatted? ≡ true → NotFormatted image layout steps
+  not_formatted t before rest named e a =
       false≢true
       (settled (answers (format named) (after before (fresh image layout))) false
       (stands refused? steps (fresh image layout) t before (format named) rest e)
@@ -222,16 +222,16 @@ module _ (image : List ℕ) (layout : Layout) (steps : List Step) where
   Holds formats = NotFormatted image layout steps
 
   abbrev pub passes? : Hypothesis → Bool
-  passes? layouts = oneLayout? image layout steps
-  passes? words = wordsWritten? image layout steps
-  passes? spacing = flipsSpaced? image layout steps
-  passes? formats = notFormatted? image layout steps
+  passes? layouts = one_layout? image layout steps
+  passes? words = words_written? image layout steps
+  passes? spacing = flips_spaced? image layout steps
+  passes? formats = not_formatted? image layout steps
 
   pub holds : (h : Hypothesis) → passes? h ≡ true → Holds h
-  holds layouts t = one-layout image layout steps t
-  holds words t = words-written image layout steps t
-  holds spacing t = flips-spaced image layout steps t
-  holds formats t = not-formatted image layout steps t
+  holds layouts t = one_layout image layout steps t
+  holds words t = words_written image layout steps t
+  holds spacing t = flips_spaced image layout steps t
+  holds formats t = not_formatted image layout steps t
 
   abbrev pub pass? : List Hypothesis → Bool
   pass? [] = true

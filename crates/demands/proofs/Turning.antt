@@ -13,12 +13,12 @@ use Rattle.block.specs.Verdict.{Said, unsaid, to_say}
 use Rattle.layout.specs.declared.Layout.{Layout}
 use Rattle.layout.specs.Layout.{shape_of, blocks}
 use Rattle.layout.specs.Refusal.{image_refusal, block_refusal}
-use Rattle.layout.proofs.Ladder.{block-accepted}
+use Rattle.layout.proofs.Ladder.{block_accepted}
 use Rattle.store.specs.declared.Answer.{Answer}
 use Rattle.store.specs.Answer.{answer_said}
 use Rattle.store.specs.Image.{gathered}
 use Rattle.store.specs.Visit.{visit_after, Visits}
-use Rattle.store.proofs.After.{visit-untouched}
+use Rattle.store.proofs.After.{visit_untouched}
 use Rattle.rota.specs.Line.{below, asks_of}
 use Rattle.rota.specs.Record.{turn_number}
 use Rattle.rota.proofs.Ranges.{turn_inside}
@@ -60,10 +60,10 @@ module _ (r : Record) (image : List ℕ) (answer : Turned) (after : List ℕ) (p
 
   module _ (visited : Answer) (between : List ℕ) (v : Visits image layout next visited between) where
     passed : block_refusal (length image) layout next ≡ 0
-    passed = block-accepted layout (length image) next fine.0 inside.0
+    passed = block_accepted layout (length image) next fine.0 inside.0
 
     left : (block : ℕ) → block < blocks layout → block_refusal (length between) layout block ≡ 0
-    left block h = rw (v.leaves, (visit-untouched image layout next).size) (block-accepted layout (length image) block fine.0 h)
+    left block h = rw (v.leaves, (visit_untouched image layout next).size) (block_accepted layout (length image) block fine.0 h)
 
     -- what the promise says of the ask and of the image, by the asks that wait
     second_is : (l : List ℕ) → asks ≡ l → report_second answer.report ≡ ask_seen layout image next l

@@ -10,14 +10,14 @@ use Rattle.ground.proofs.Ladder.{Rung, rung_below, first_then, first_front}
 use Rattle.ground.proofs.Same.{same}
 use Rattle.layout.specs.declared.Layout.{Layout}
 use Rattle.layout.specs.Reason.{image_rules}
-use Rattle.layout.proofs.Ladder.{image-first}
+use Rattle.layout.proofs.Ladder.{image_first}
 use Rattle.file.specs.declared.Written.{Written}
 use Rattle.file.specs.declared.Written.TheVariants.{Refused, Bytes}
 use Rattle.file.specs.Bytes.{file_of, file_length, file_into}
 use Rattle.file.specs.Refusal.{long_rung, room_rung, write_refusal}
 use Rattle.file.specs.Reason.{too_long, no_room, write_rules}
 use Rattle.file.specs.Written.{written_number, written_bytes, WritesFile, write_answer}
-use Rattle.file.proofs.RoundTrip.{length-file}
+use Rattle.file.proofs.RoundTrip.{length_file}
 
 -- number and bytes tell answers apart
 pub written_told : (a b : Written) → (a ≡ Refused 0 → ⊥) → (b ≡ Refused 0 → ⊥) → written_number a ≡ written_number b → written_bytes a ≡ written_bytes b → a ≡ b
@@ -33,9 +33,9 @@ module _ (image : List ℕ) (layout : Layout) (buffer : List ℕ) where
   abbrev after : ℕ → List ℕ
   after number = if_zero number (file_into layout image buffer) buffer
 
-  pub writes-refused : (number : ℕ) → number ≡ refusal → (number ≡ 0 → ⊥) → WritesFile image layout buffer (Refused number) image buffer
-  writes-refused zero e ne = absurd (ne refl)
-  writes-refused (suc number) e ne =
+  pub writes_refused : (number : ℕ) → number ≡ refusal → (number ≡ 0 → ⊥) → WritesFile image layout buffer (Refused number) image buffer
+  writes_refused zero e ne = absurd (ne refl)
+  writes_refused (suc number) e ne =
       record { number = e; bytes = rw (← e); keeps = refl; leaves = rw (← e); numbered = λ q. let z : suc number ≡ 0 = cc in omega arith }
 
   pub writes_bytes : (count : ℕ) (left : List ℕ) → refusal ≡ 0 → count ≡ length (file_of layout image) → left ≡ file_into layout image buffer
@@ -44,30 +44,30 @@ module _ (image : List ℕ) (layout : Layout) (buffer : List ℕ) where
       record { number = sym e; bytes = n ∙ rw e; keeps = refl; leaves = l ∙ rw e; numbered = λ q. let z : ◌≡◌ {A = ℕ} 0 1 = cc in omega arith }
 
   -- the answer by its definition, and what is left, meet the promise, and are what it leaves
-  pub file-written : WritesFile image layout buffer (write_answer image layout buffer) image (after refusal)
+  pub file_written : WritesFile image layout buffer (write_answer image layout buffer) image (after refusal)
   unfolding write_answer
-  file-written = by refusal refl
+  file_written = by refusal refl
     where
       by : (n : ℕ) → n ≡ refusal → WritesFile image layout buffer (if_zero n (Bytes (length (file_of layout image))) (Refused n)) image (after n)
       by zero e = writes_bytes _ _ (sym e) refl refl
-      by (suc n) e = writes-refused (suc n) e (λ z. omega arith)
+      by (suc n) e = writes_refused (suc n) e (λ z. omega arith)
 
-  pub file-answer : {answer : Written} {kept left : List ℕ} → WritesFile image layout buffer answer kept left → answer ≡ write_answer image layout buffer
-  file-answer {answer} w =
-      written_told answer (write_answer image layout buffer) w.numbered file-written.numbered (same w.number file-written.number)
-      (same w.bytes file-written.bytes)
+  pub file_answer : {answer : Written} {kept left : List ℕ} → WritesFile image layout buffer answer kept left → answer ≡ write_answer image layout buffer
+  file_answer {answer} w =
+      written_told answer (write_answer image layout buffer) w.numbered file_written.numbered (same w.number file_written.number)
+      (same w.bytes file_written.bytes)
 
   -- ---- the ladder is the first of its rules
 
-  long-rung : Rung (too_long (file_of layout image)) (long_rung (file_length (length image)))
-  long-rung = rw (← length-file layout image) (rung_below (too_long (file_of layout image)) _ _ (λ l. l) (λ l. l))
+  long_rung_lem : Rung (too_long (file_of layout image)) (long_rung (file_length (length image)))
+  long_rung_lem = rw (← length_file layout image) (rung_below (too_long (file_of layout image)) _ _ (λ l. l) (λ l. l))
 
-  room-rung : Rung (no_room (file_of layout image) buffer) (room_rung (file_length (length image)) (length buffer))
-  room-rung = rw (← length-file layout image) (rung_below (no_room (file_of layout image) buffer) _ _ (λ l. l) (λ l. l))
+  room_rung_lem : Rung (no_room (file_of layout image) buffer) (room_rung (file_length (length image)) (length buffer))
+  room_rung_lem = rw (← length_file layout image) (rung_below (no_room (file_of layout image) buffer) _ _ (λ l. l) (λ l. l))
 
-  pub write-first : FirstOf (write_rules image layout buffer) refusal
+  pub write_first : FirstOf (write_rules image layout buffer) refusal
   unfolding write_refusal
-  write-first =
+  write_first =
       first_then (image_rules (length image) layout) (too_long (file_of layout image) ∷ no_room (file_of layout image) buffer ∷ []) _ _ tt
-      (image-first layout (length image))
-      (first_front (too_long (file_of layout image)) (no_room (file_of layout image) buffer ∷ []) _ _ (λ z. omega arith) long-rung room-rung)
+      (image_first layout (length image))
+      (first_front (too_long (file_of layout image)) (no_room (file_of layout image) buffer ∷ []) _ _ (λ z. omega arith) long_rung_lem room_rung_lem)

@@ -17,7 +17,7 @@ use Rattle.ground.proofs.Ladder.{Rung, rung_test, rung_below, rung_neither, rung
 use Rattle.ground.proofs.Ladder.{first_more, first_front, test_passed}
 use Rattle.layout.specs.Refusal.{layout_refusal, image_refusal}
 use Rattle.layout.specs.Reason.{layout_rules}
-use Rattle.layout.proofs.Ladder.{Geometry, geometry, layout-first}
+use Rattle.layout.proofs.Ladder.{Geometry, geometry, layout_first}
 use Rattle.file.specs.declared.Header.TheVariants.{Refused, Image}
 use Rattle.file.specs.Header.{header_of}
 use Rattle.file.specs.Bytes.{version_in, field_in, layout_in}
@@ -87,14 +87,14 @@ accepted bytes e =
 -- ---- each rung answers its number exactly for its reason, and the ladder the first that applies
 
 module _ (bytes : List ℕ) where
-  field-rung : Rung (bad_field bytes) (field_rung (field_in bytes) (length bytes))
-  field-rung =
+  field_rung_lem : Rung (bad_field bytes) (field_rung (field_in bytes) (length bytes))
+  field_rung_lem =
       rung_test (bad_field bytes) (not (eqb (field_in bytes) (length bytes - 5)))
       (λ e q. eqb-false _ _ (not-true _ e) (q ∙ length-drop 5 bytes))
       (λ e r. r (eqb-true _ _ (not-false _ e) ∙ sym (length-drop 5 bytes)))
 
-  body-rung : Rung (bad_body bytes) (body_rung (length bytes - 9) (layout_in bytes))
-  body-rung =
+  body_rung_lem : Rung (bad_body bytes) (body_rung (length bytes - 9) (layout_in bytes))
+  body_rung_lem =
       rung_test (bad_body bytes) (not (eqb (length bytes - 9) (4 * (rows_of (layout_in bytes) * blocks (layout_in bytes)))))
       (λ e q. eqb-false _ _ (not-true _ e) (sym (length-drop 9 bytes) ∙ q))
       (λ e r. r (length-drop 9 bytes ∙ eqb-true _ _ (not-false _ e)))
@@ -105,53 +105,53 @@ module _ (bytes : List ℕ) where
   abbrev layout : ℕ
   layout = body_refusal (length bytes - 9) (layout_in bytes)
 
-  from-layout : FirstOf (rules ++ bad_body bytes ∷ []) layout
+  from_layout : FirstOf (rules ++ bad_body bytes ∷ []) layout
   unfolding body_refusal
-  from-layout =
-      first_more rules (bad_body bytes) _ _ tt (layout-first (layout_in bytes)) body-rung
+  from_layout =
+      first_more rules (bad_body bytes) _ _ tt (layout_first (layout_in bytes)) body_rung_lem
 
   from_field : FirstOf (bad_field bytes ∷ rules ++ bad_body bytes ∷ []) (field_rung (field_in bytes) (length bytes) then layout)
-  from_field = first_front (bad_field bytes) (rules ++ bad_body bytes ∷ []) _ layout (λ z. omega arith) field-rung from-layout
+  from_field = first_front (bad_field bytes) (rules ++ bad_body bytes ∷ []) _ layout (λ z. omega arith) field_rung_lem from_layout
 
-  from-version : FirstOf (bad_version bytes ∷ bad_field bytes ∷ rules ++ bad_body bytes ∷ [])
+  from_version : FirstOf (bad_version bytes ∷ bad_field bytes ∷ rules ++ bad_body bytes ∷ [])
       (version_rung (version_in bytes) then field_rung (field_in bytes) (length bytes) then layout)
-  from-version =
+  from_version =
       first_front (bad_version bytes) (bad_field bytes ∷ rules ++ bad_body bytes ∷ []) _ _ (λ z. omega arith)
       (version_rung_lem bytes)
       from_field
 
-  from-short : FirstOf (too_short bytes ∷ bad_version bytes ∷ bad_field bytes ∷ rules ++ bad_body bytes ∷ [])
+  from_short : FirstOf (too_short bytes ∷ bad_version bytes ∷ bad_field bytes ∷ rules ++ bad_body bytes ∷ [])
       (short_rung (length bytes) then version_rung (version_in bytes) then field_rung (field_in bytes) (length bytes) then layout)
-  from-short =
+  from_short =
       first_front (too_short bytes) (bad_version bytes ∷ bad_field bytes ∷ rules ++ bad_body bytes ∷ []) _ _ (λ z. omega arith)
       (rung_below (too_short bytes) _ _ (λ l. l) (λ l. l))
-      from-version
+      from_version
 
-  pub file-first : FirstOf (file_rules bytes) (file_refusal bytes)
+  pub file_first : FirstOf (file_rules bytes) (file_refusal bytes)
   unfolding file_refusal frame_refusal
-  file-first =
+  file_first =
       rw (then_assoc (long_rung (length bytes)), then_assoc (short_rung (length bytes)), then_assoc (version_rung (version_in bytes)))
       (first_front (too_long bytes) (too_short bytes ∷ bad_version bytes ∷ bad_field bytes ∷ rules ++ bad_body bytes ∷ []) _ _ (λ z. omega arith)
       (rung_below (too_long bytes) _ _ (λ l. l) (λ l. l))
-      from-short)
+      from_short)
 
 -- ---- the header by its refusals
 
 module _ (bytes : List ℕ) where
-  pub frame-stands : (number : ℕ) → number ≡ frame_refusal bytes → (number ≡ 0 → ⊥) → file_refusal bytes ≡ number
+  pub frame_stands : (number : ℕ) → number ≡ frame_refusal bytes → (number ≡ 0 → ⊥) → file_refusal bytes ≡ number
   unfolding file_refusal
-  frame-stands number e ne = rw (← e) (then_first number _ ne)
+  frame_stands number e ne = rw (← e) (then_first number _ ne)
 
-  pub frame-passed : frame_refusal bytes ≡ 0
+  pub frame_passed : frame_refusal bytes ≡ 0
       → file_refusal bytes ≡ body_refusal (length bytes - 9) (layout_in bytes)
   unfolding file_refusal
-  frame-passed e = rw e
+  frame_passed e = rw e
 
   pub header_refused : (number : ℕ) → file_refusal bytes ≡ number → (number ≡ 0 → ⊥) → Refused number ≡ header_of bytes
   unfolding header_of
   header_refused zero e ne = absurd (ne refl)
   header_refused (suc number) e ne = rw e
 
-  pub header-image : file_refusal bytes ≡ 0 → Image (layout_in bytes) ≡ header_of bytes
+  pub header_image : file_refusal bytes ≡ 0 → Image (layout_in bytes) ≡ header_of bytes
   unfolding header_of
-  header-image e = rw e
+  header_image e = rw e

@@ -14,7 +14,7 @@ use Rattle.file.specs.Bytes.{layout_in, word_count, word_in, words_in}
 use Rattle.file.specs.Inner.{words_into}
 use Rattle.file.specs.Refusal.{file_refusal}
 use Rattle.file.specs.Header.{header_if, header_of}
-use Rattle.file.proofs.Ladder.{accepted, body_words, frame-passed, header-image}
+use Rattle.file.proofs.Ladder.{accepted, body_words, frame_passed, header_image}
 
 pub length_words : (bytes : List ℕ) → length (words_in bytes) ≡ word_count (length bytes)
 unfolding words_in
@@ -46,8 +46,8 @@ words_layout bytes layout e =
     let ok = accepted bytes l.0 in
     rw l.1
     (sym (body_words (length bytes - 9) (layout_in bytes) (omega (arith, ok.body)))
-    ∙ sym (frame-passed bytes ok.framed_whole)
+    ∙ sym (frame_passed bytes ok.framed_whole)
     ∙ l.0)
 
 pub words_held : (bytes : List ℕ) → file_refusal bytes ≡ 0 → image_refusal (length (words_in bytes)) (layout_in bytes) ≡ 0
-words_held bytes e = rw (length_words bytes) (words_layout bytes (layout_in bytes) (sym (header-image bytes e)))
+words_held bytes e = rw (length_words bytes) (words_layout bytes (layout_in bytes) (sym (header_image bytes e)))

@@ -12,7 +12,7 @@ use Rattle.file.specs.Refusal.{read_refusal}
 use Rattle.file.specs.Header.{HeaderRead, ReadsFile}
 use Rattle.file.specs.Written.{WritesFile}
 use Rattle.file.proofs.Headers.{header_is, tells_is}
-use Rattle.file.proofs.FileWrites.{file-answer}
+use Rattle.file.proofs.FileWrites.{file_answer}
 
 pub one_header : (bytes : List ℕ) {a b : Header} → HeaderRead bytes a → HeaderRead bytes b → a ≡ b
 one_header bytes {a} {b} p q = same (header_is bytes a p) (header_is bytes b q)
@@ -33,4 +33,4 @@ pub one_file_write : (image : List ℕ) (layout : Layout) (buffer : List ℕ) {a
     → WritesFile image layout buffer b kept' after'
     → (a ≡ b) × (kept ≡ kept') × (after ≡ after')
 one_file_write image layout buffer p q =
-    (same (file-answer image layout buffer p) (file-answer image layout buffer q), same p.keeps q.keeps, same p.leaves q.leaves)
+    (same (file_answer image layout buffer p) (file_answer image layout buffer q), same p.keeps q.keeps, same p.leaves q.leaves)

@@ -12,12 +12,12 @@ use Rattle.ground.proofs.Stores.{stores_paste}
 use Rattle.ground.proofs.Ladder.{then_zero, test_passed}
 use Rattle.layout.specs.declared.Layout.{Layout}
 use Rattle.layout.specs.Refusal.{image_refusal}
-use Rattle.layout.proofs.Ladder.{geometry, image-layout, groups-few}
+use Rattle.layout.proofs.Ladder.{geometry, image_layout, groups_few}
 use Rattle.file.specs.BigEndian.{word_bytes}
 use Rattle.file.specs.Bytes.{bytes_of, head_of, file_of, file_length, file_into}
 use Rattle.file.specs.Refusal.{long_rung, write_refusal}
 use Rattle.file.specs.Inner.{Small, head_byte, body_byte, with_word}
-use Rattle.file.proofs.RoundTrip.{length_bytes, length-file}
+use Rattle.file.proofs.RoundTrip.{length_bytes, length_file}
 
 -- ---- the bytes of a word
 
@@ -91,7 +91,7 @@ file_put layout words bytes h =
     ∙ ap₂ (λ (body past : List ℕ). head ++ body ++ past) (ap (λ (n : ℕ). take n (bytes_of words)) count ∙ take-length (bytes_of words))
     (drop-append-add head (drop 9 bytes) (4 * length words)
     ∙ drop-drop (4 * length words) 9 bytes
-    ∙ ap (λ (n : ℕ). drop n bytes) (sym (length-file layout words)))
+    ∙ ap (λ (n : ℕ). drop n bytes) (sym (length_file layout words)))
 
 -- ---- what holds where nothing is refused
 
@@ -100,11 +100,11 @@ unfolding write_refusal
 small len layout room e =
     let image = then_zero (image_refusal len layout) _ e in
     let long = then_zero (long_rung (file_length len)) _ image.1 in
-    let ok = geometry layout (image-layout layout len image.0) in
+    let ok = geometry layout (image_layout layout len image.0) in
     record {
       shape = ⊎_elim (λ (z : layout.shape ≡ 1). omega arith) (λ (z : layout.shape ≡ 2). omega arith) ok.shape_known;
       s = omega (arith, ok.s_last);
-      g = omega (arith, groups-few layout ok);
+      g = omega (arith, groups_few layout ok);
       most = ltb-false 32768 (file_length len) (test_passed 10 _ long.0);
       fits = ltb-false room (file_length len) (test_passed 11 _ long.1);
     }

@@ -70,54 +70,54 @@ then_none zero = refl
 then_none (suc number) = refl
 
 module _ (layout : Layout) (words : List ℕ) where
-  pub length-file : length (file_of layout words) ≡ file_length (length words)
+  pub length_file : length (file_of layout words) ≡ file_length (length words)
   unfolding file_of
-  length-file = omega (arith, length_bytes words)
+  length_file = omega (arith, length_bytes words)
 
   pub field_back : field_in (file_of layout words) ≡ 4 + 4 * length words
   unfolding file_of
   field_back = word_read (4 + 4 * length words)
 
-  pub layout-back : layout_in (file_of layout words) ≡ layout
+  pub layout_back : layout_in (file_of layout words) ≡ layout
   unfolding file_of
-  layout-back = ap (λ (g : ℕ). layout_of layout.shape layout.s g) (pair_read layout.g)
+  layout_back = ap (λ (g : ℕ). layout_of layout.shape layout.s g) (pair_read layout.g)
 
   -- what is read of an image's file is the image
   pub words_back : words_in (file_of layout words) ≡ words
   unfolding words_in file_of
   words_back =
-      let count : word_count (length (file_of layout words)) ≡ length words = omega (arith, length-file) in
+      let count : word_count (length (file_of layout words)) ≡ length words = omega (arith, length_file) in
       ap (λ (n : ℕ). list_of n (word_in (file_of layout words))) count
       ∙ sym (list_is (length words) words (word_in (file_of layout words)) refl
       (λ k h. word_back words k h ∙ sym (word_past (head_of layout (length words)) (bytes_of words) (4 * k))))
 
-  pub version-back : version_in (file_of layout words) ≡ 2
+  pub version_back : version_in (file_of layout words) ≡ 2
   unfolding file_of
-  version-back = refl
+  version_back = refl
 
-  pub image-back : image_in (file_of layout words) ≡ words
-  image-back = rw version-back words_back
+  pub image_back : image_in (file_of layout words) ≡ words
+  image_back = rw version_back words_back
 
   frame_back : frame_refusal (file_of layout words) ≡ long_rung (file_length (length words))
   unfolding frame_refusal
   frame_back =
       let file = file_of layout words in
-      let field : field_in file ≡ length file - 5 = omega (arith, field_back, length-file) in
-      let long : 9 ≤ length file = omega (arith, length-file) in
-      rw (version-back, le-ltb (length file) 9 long, eq-eqb (field_in file) (length file - 5) field, length-file)
+      let field : field_in file ≡ length file - 5 = omega (arith, field_back, length_file) in
+      let long : 9 ≤ length file = omega (arith, length_file) in
+      rw (version_back, le-ltb (length file) 9 long, eq-eqb (field_in file) (length file - 5) field, length_file)
       (then_none (long_rung (file_length (length words))))
 
   body_back : body_refusal (length (file_of layout words) - 9) layout ≡ image_refusal (length words) layout
   body_back =
-      let body : length (file_of layout words) - 9 ≡ 4 * length words = omega (arith, length-file) in
+      let body : length (file_of layout words) - 9 ≡ 4 * length words = omega (arith, length_file) in
       let even : 4 * length words % 4 ≡ 0 = omega arith in
       let whole : 4 * length words / 4 ≡ length words = omega arith in
       rw body (body_words (4 * length words) layout even ∙ ap (λ (n : ℕ). image_refusal n layout) whole)
 
   -- and the file is refused as the image's layout is, but for its length
-  pub refusal-back : file_refusal (file_of layout words) ≡ long_rung (file_length (length words)) then image_refusal (length words) layout
+  pub refusal_back : file_refusal (file_of layout words) ≡ long_rung (file_length (length words)) then image_refusal (length words) layout
   unfolding file_refusal file_of
-  refusal-back = rw (frame_back, layout-back) (ap (λ (n : ℕ). long_rung (file_length (length words)) then n) body_back)
+  refusal_back = rw (frame_back, layout_back) (ap (λ (n : ℕ). long_rung (file_length (length words)) then n) body_back)
 
 -- ---- from a file to its image and back
 
@@ -179,14 +179,14 @@ module _ (bytes : List ℕ) (small : FittingBytes bytes) (e : file_refusal bytes
   whole = head_of_lem bytes (accepted bytes e).frame.least
 
   -- the file of an image of as many words as were read: the header again, with version 2
-  pub file-renewed : (image : List ℕ) → length image ≡ word_count (length bytes)
+  pub file_renewed : (image : List ℕ) → length image ≡ word_count (length bytes)
       → file_of (layout_in bytes) image ≡ (2 ∷ take 8 (drop 1 bytes)) ++ bytes_of image
   unfolding file_of
-  file-renewed image size = ap (λ (head : List ℕ). head ++ bytes_of image) (head_again bytes small (accepted bytes e) whole (length image) size)
+  file_renewed image size = ap (λ (head : List ℕ). head ++ bytes_of image) (head_again bytes small (accepted bytes e) whole (length image) size)
 
   -- the file of what was read from a file of version 2 is that file
-  pub file-back : version_in bytes ≡ 2 → file_of (layout_in bytes) (words_in bytes) ≡ bytes
-  file-back version =
-      file-renewed (words_in bytes) (length_words bytes)
+  pub file_back : version_in bytes ≡ 2 → file_of (layout_in bytes) (words_in bytes) ≡ bytes
+  file_back version =
+      file_renewed (words_in bytes) (length_words bytes)
       ∙ ap (λ (words : List ℕ). (2 ∷ take 8 (drop 1 bytes)) ++ words) (words_again bytes small (accepted bytes e) whole)
       ∙ in_two bytes whole version

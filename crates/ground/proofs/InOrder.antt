@@ -24,17 +24,17 @@ given_some (rule ∷ rules) number t g z =
     ⊎_elim (λ r. first_some rule rules t (sym r.1 ∙ z)) (λ r. given_some rules number (rest_some rule rules t) r.1 z) g
 
 module _ (answer number : ℕ) where
-  first-given : (rules : List Rule) → FirstOf rules answer → (number ≡ 0 → ⊥) → answer ≡ number → FirstGiven number rules
-  first-given [] first ne e = ne (sym e ∙ first)
-  first-given (rule ∷ rules) first ne e =
-      ⊎_elim (λ r. inl (r.0, sym e ∙ r.1)) (λ r. inr (r.0, first-given rules r.1 ne e)) first
+  first_given : (rules : List Rule) → FirstOf rules answer → (number ≡ 0 → ⊥) → answer ≡ number → FirstGiven number rules
+  first_given [] first ne e = ne (sym e ∙ first)
+  first_given (rule ∷ rules) first ne e =
+      ⊎_elim (λ r. inl (r.0, sym e ∙ r.1)) (λ r. inr (r.0, first_given rules r.1 ne e)) first
 
-  pub given-first : (rules : List Rule) → FirstOf rules answer → FirstGiven number rules → answer ≡ number
-  given-first [] first g = absurd g
-  given-first (rule ∷ rules) first g =
+  pub given_first : (rules : List Rule) → FirstOf rules answer → FirstGiven number rules → answer ≡ number
+  given_first [] first g = absurd g
+  given_first (rule ∷ rules) first g =
       ⊎_elim
       (λ r. ⊎_elim (λ q. r.1 ∙ sym q.1) (λ q. absurd (q.0 r.0)) g)
-      (λ r. ⊎_elim (λ q. absurd (r.0 q.0)) (λ q. given-first rules r.1 q.1) g)
+      (λ r. ⊎_elim (λ q. absurd (r.0 q.0)) (λ q. given_first rules r.1 q.1) g)
       first
 
 none_first : (rules : List Rule) (answer : ℕ) → T (numbered? rules) → FirstOf rules answer → (answer ≡ 0) ↔ NoneOf rules
@@ -48,6 +48,6 @@ none_first (rule ∷ rules) answer t first =
 pub in_order : (rules : List Rule) (answer : ℕ) → T (numbered? rules) → FirstOf rules answer → InOrder rules answer
 in_order rules answer t first =
     record {
-      exactly = λ number ne. (first-given answer number rules first ne, given-first answer number rules first);
+      exactly = λ number ne. (first_given answer number rules first ne, given_first answer number rules first);
       accepted = none_first rules answer t first;
     }

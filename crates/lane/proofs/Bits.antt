@@ -27,10 +27,10 @@ module _ (op : ℕ → ℕ → ℕ) (g : Bool → Bool → Bool)
     (shr : (a b k : ℕ) → op a b / 2 ^ k ≡ op (a / 2 ^ k) (b / 2 ^ k))
     (low : (a b k : ℕ) → op a b % 2 ^ k ≡ op (a % 2 ^ k) (b % 2 ^ k))
     (digit : (x y : ℕ) → x < 2 → y < 2 → set? (op x y) ≡ g (set? x) (set? y)) where
-  bit-op : (i a b : ℕ) → bit i (op a b) ≡ g (bit i a) (bit i b)
+  bit_op : (i a b : ℕ) → bit i (op a b) ≡ g (bit i a) (bit i b)
   unfolding bit
-  bit-op zero a b = ap set? (low a b 1) ∙ digit (a % 2) (b % 2) (mod-lt a (zero-lt-suc 1)) (mod-lt b (zero-lt-suc 1))
-  bit-op (suc i) a b = ap (bit i) (shr a b 1) ∙ bit-op i (a / 2) (b / 2)
+  bit_op zero a b = ap set? (low a b 1) ∙ digit (a % 2) (b % 2) (mod-lt a (zero-lt-suc 1)) (mod-lt b (zero-lt-suc 1))
+  bit_op (suc i) a b = ap (bit i) (shr a b 1) ∙ bit_op i (a / 2) (b / 2)
 
 digits : (op : ℕ → ℕ → ℕ) (g : Bool → Bool → Bool)
     → set? (op 0 0) ≡ g false false → set? (op 0 1) ≡ g false true → set? (op 1 0) ≡ g true false → set? (op 1 1) ≡ g true true
@@ -44,13 +44,13 @@ digits op g p q r s (suc zero) (suc (suc y)) h k = absurd (omega arith)
 digits op g p q r s (suc (suc x)) y h k = absurd (omega arith)
 
 pub bit_of_xor : (i a b : ℕ) → bit i (bit_xor a b) ≡ bit i a ⊕ bit i b
-bit_of_xor = bit-op bit_xor ◌⊕◌ xor_shr xor_mod (digits bit_xor ◌⊕◌ refl refl refl refl)
+bit_of_xor = bit_op bit_xor ◌⊕◌ xor_shr xor_mod (digits bit_xor ◌⊕◌ refl refl refl refl)
 
 pub bit_of_and : (i a b : ℕ) → bit i (bit_and a b) ≡ bit i a && bit i b
-bit_of_and = bit-op bit_and ◌&&◌ and_shr and_mod (digits bit_and ◌&&◌ refl refl refl refl)
+bit_of_and = bit_op bit_and ◌&&◌ and_shr and_mod (digits bit_and ◌&&◌ refl refl refl refl)
 
 pub bit_of_or : (i a b : ℕ) → bit i (bit_or a b) ≡ bit i a || bit i b
-bit_of_or = bit-op bit_or ◌||◌ or_shr or_mod (digits bit_or ◌||◌ refl refl refl refl)
+bit_of_or = bit_op bit_or ◌||◌ or_shr or_mod (digits bit_or ◌||◌ refl refl refl refl)
 
 -- two numbers are equal where their bits are
 same_digit : (x y : ℕ) → x < 2 → y < 2 → set? x ≡ set? y → x ≡ y

@@ -68,15 +68,15 @@ module _ (m : ℕ) (f : Lane) where
   )
 
   -- so an even lane sums to 0, and an odd one to no more than m
-  near-valid : (g : Lane) → Valid m g → apart m f g ≤ 1
+  near_valid : (g : Lane) → Valid m g → apart m f g ≤ 1
       → ((odd (suc m) f ≡ false) × (sum m f ≡ 0)) ⊎ ((odd (suc m) f ≡ true) × (sum m f ≤ m))
   unfolding count
-  near-valid g v h =
+  near_valid g v h =
       let w = within g v in
       rw (w.0, w.1) (few m (count m (diff f g)) (sum m (diff f g)) (f (suc m) ⊕ g (suc m)) (weight m (diff f g)) h)
 
-  odd-then-even : (r : ℕ) → 1 ≤ r → r ≤ suc m → odd (suc m) f ≡ true → odd (suc m) (diff f (only r)) ≡ false
-  odd-then-even r l h o = flip_odd m r f l h ∙ ap (λ (b : Bool). b ⊕ true) o
+  odd_then_even : (r : ℕ) → 1 ≤ r → r ≤ suc m → odd (suc m) f ≡ true → odd (suc m) (diff f (only r)) ≡ false
+  odd_then_even r l h o = flip_odd m r f l h ∙ ap (λ (b : Bool). b ⊕ true) o
 
   by_row : (s : ℕ) (t : Bool) → leb (suc s) m ≡ t → odd (suc m) f ≡ true → sum m f ≡ suc s → Right m f (cond t (flipped (suc s)) (lost beyond))
   by_row s true l o e =
@@ -85,21 +85,21 @@ module _ (m : ℕ) (f : Lane) where
         omega arith,
         record {
           sum_zero = flip_sum m (suc s) f (omega arith) h ∙ ap (λ (x : ℕ). bit_xor x (suc s)) e ∙ xor_self (suc s);
-          even = odd-then-even (suc s) (omega arith) (omega arith) o;
+          even = odd_then_even (suc s) (omega arith) (omega arith) o;
         },
       )
   by_row s false l o e =
       let k = leb-false (suc s) m l in
-      ((o, omega arith), λ g v h. ⊎_elim (λ c. omega arith) (λ c. omega arith) (near-valid g v h))
+      ((o, omega arith), λ g v h. ⊎_elim (λ c. omega arith) (λ c. omega arith) (near_valid g v h))
 
-  by-case : (o : Bool) (s : ℕ) → odd (suc m) f ≡ o → sum m f ≡ s → Right m f (decision m o s)
+  by_case : (o : Bool) (s : ℕ) → odd (suc m) f ≡ o → sum m f ≡ s → Right m f (decision m o s)
   unfolding decision
-  by-case false zero o e = record { sum_zero = e; even = o }
-  by-case false (suc s) o e =
-      ((o, λ z. omega arith), λ g v h. ⊎_elim (λ c. omega arith) (λ c. true≢false (sym c.0 ∙ o)) (near-valid g v h))
-  by-case true zero o e =
-      (omega arith, omega arith, record { sum_zero = flip_last m f ∙ e; even = odd-then-even (suc m) (omega arith) (le_refl (suc m)) o })
-  by-case true (suc s) o e = by_row s (leb (suc s) m) refl o e
+  by_case false zero o e = record { sum_zero = e; even = o }
+  by_case false (suc s) o e =
+      ((o, λ z. omega arith), λ g v h. ⊎_elim (λ c. omega arith) (λ c. true≢false (sym c.0 ∙ o)) (near_valid g v h))
+  by_case true zero o e =
+      (omega arith, omega arith, record { sum_zero = flip_last m f ∙ e; even = odd_then_even (suc m) (omega arith) (le_refl (suc m)) o })
+  by_case true (suc s) o e = by_row s (leb (suc s) m) refl o e
 
   pub decided : Right m f (decide m f)
-  decided = by-case _ _ (cc) (cc)
+  decided = by_case _ _ (cc) (cc)

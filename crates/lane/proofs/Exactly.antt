@@ -56,17 +56,17 @@ module _ (m : ℕ) (d : Lane) (quiet : (p : ℕ) → DataRow m p → d p ≡ fal
       (λ t. ap (λ (x : Bool). d (suc n) && x) t ∙ and-false (d (suc n)))
       (either (bit k (suc n)))
 
-  at-check : (k r n : ℕ) → r ≡ 2 ^ k → r ≤ n → n ≤ m → bit k (sum n d) ≡ d r
+  at_check : (k r n : ℕ) → r ≡ 2 ^ k → r ≤ n → n ≤ m → bit k (sum n d) ≡ d r
   unfolding sum
-  at-check k r zero e h l = let p = pow_pos k in absurd (omega arith)
-  at-check k r (suc n) e h l =
+  at_check k r zero e h l = let p = pow_pos k in absurd (omega arith)
+  at_check k r (suc n) e h l =
       bit_of_xor k (sum n d) (pick (d (suc n)) (suc n)) ∙ ap (λ (x : Bool). bit k (sum n d) ⊕ x) (pick_bit k (d (suc n)) (suc n))
       ∙ ⊎_elim
       (λ q.
       ap₂ ◌⊕◌ (bit_high k k (sum n d) (sum_lt k n d (omega arith)) (le_refl k))
       (ap (λ (x : Bool). d (suc n) && x) (ap (bit k) (sym q ∙ e) ∙ power_digit k) ∙ and-true (d (suc n)))
       ∙ ap d (sym q))
-      (λ q. ap₂ ◌⊕◌ (at-check k r n e (omega arith) (omega arith)) (other k n l (λ s. omega arith)) ∙ ⊕-zero (d r))
+      (λ q. ap₂ ◌⊕◌ (at_check k r n e (omega arith) (omega arith)) (other k n l (λ s. omega arith)) ∙ ⊕-zero (d r))
       (eq-or-lt_of_le h)
 
   silent : sum m d ≡ 0 → (j : ℕ) → j < m → d (suc j) ≡ false
@@ -74,7 +74,7 @@ module _ (m : ℕ) (d : Lane) (quiet : (p : ℕ) → DataRow m p → d p ≡ fal
       ⊎_elim
       (λ t.
       quiet (suc j)
-      (record { first = omega arith; last = h; no_power = λ k e. true≢false (sym t ∙ sym (at-check k (suc j) m e h (le_refl m)) ∙ ap (bit k) z ∙ bit_zero k) }))
+      (record { first = omega arith; last = h; no_power = λ k e. true≢false (sym t ∙ sym (at_check k (suc j) m e h (le_refl m)) ∙ ap (bit k) z ∙ bit_zero k) }))
       (λ t. t)
       (either (d (suc j)))
 
@@ -114,14 +114,14 @@ module _ (m s : ℕ) (fit : (l : ℕ) → bit l s ≡ true → 2 ^ l ≤ m) wher
       ap (bit i) (sum_diff m (named k s) (λ p. bit k s && eqb p (2 ^ k)) ∙ ap (bit_xor (sum m (named k s))) (single m k (bit k s) (fit k)))
       ∙ bit_of_xor i (sum m (named k s)) (pick (bit k s) (2 ^ k)) ∙ ap (λ (b : Bool). bit i (sum m (named k s)) ⊕ b) (pick_bit i (bit k s) (2 ^ k))
 
-  not-power : (k i : ℕ) → (i ≡ k → ⊥) → (b : Bool) → b && bit i (2 ^ k) ≡ false
-  not-power k i ne b =
+  not_power : (k i : ℕ) → (i ≡ k → ⊥) → (b : Bool) → b && bit i (2 ^ k) ≡ false
+  not_power k i ne b =
       ap (λ (x : Bool). b && x) (power_apart i k ne) ∙ and-false b
 
   high : (k i : ℕ) → k ≤ i → bit i (sum m (named k s)) ≡ false
   unfolding named
   high zero i h = ap (bit i) (sum_empty m) ∙ bit_zero i
-  high (suc k) i h = one_more k i ∙ ap₂ ◌⊕◌ (high k i (omega arith)) (not-power k i (λ e. omega arith) (bit k s))
+  high (suc k) i h = one_more k i ∙ ap₂ ◌⊕◌ (high k i (omega arith)) (not_power k i (λ e. omega arith) (bit k s))
 
   low : (k i : ℕ) → i < k → bit i (sum m (named k s)) ≡ bit i s
   low zero i h = absurd (omega arith)
@@ -129,7 +129,7 @@ module _ (m s : ℕ) (fit : (l : ℕ) → bit l s ≡ true → 2 ^ l ≤ m) wher
       one_more k i
       ∙ ⊎_elim
       (λ e. rw e (ap₂ ◌⊕◌ (high k k (le_refl k)) (ap (λ (x : Bool). bit k s && x) (power_digit k) ∙ and-true (bit k s))))
-      (λ l. ap₂ ◌⊕◌ (low k i l) (not-power k i (λ e. omega arith) (bit k s)) ∙ ⊕-zero (bit i s))
+      (λ l. ap₂ ◌⊕◌ (low k i l) (not_power k i (λ e. omega arith) (bit k s)) ∙ ⊕-zero (bit i s))
       (eq-or-lt_of_le (le_of_suc-le-suc h))
 
 -- no check row is a data row
@@ -145,8 +145,8 @@ module _ (k m : ℕ) (f : Lane) (hm : m < 2 ^ k) where
   inside l e =
       ⊎_elim (λ h. absurd (true≢false (sym e ∙ bit_high l l (sum m f) (sum_lt l m f h) (le_refl l)))) (λ h. h) (split_below m (2 ^ l))
 
-  summed-sum : sum m (summed k m f) ≡ 0
-  summed-sum =
+  summed_sum : sum m (summed k m f) ≡ 0
+  summed_sum =
       sum_diff m f (named k (sum m f))
       ∙ ap (bit_xor (sum m f))
       (bit_ext_below k (sum m (named k (sum m f))) (sum m f) (sum_lt k m (named k (sum m f)) hm) (sum_lt k m f hm) (low m (sum m f) inside k))
@@ -159,10 +159,10 @@ module _ (k m : ℕ) (f : Lane) (hm : m < 2 ^ k) where
   last_row : encoded k m f (suc m) ≡ summed k m f (suc m) ⊕ odd (suc m) (summed k m f)
   last_row = rw (eq-eqb (suc m) (suc m) refl, and-true)
 
-  pub encoded-valid : Valid m (encoded k m f)
-  encoded-valid =
+  pub encoded_valid : Valid m (encoded k m f)
+  encoded_valid =
       record {
-        sum_zero = sum_same m (encoded k m f) (summed k m f) (λ j l. before_last (suc j) l) ∙ summed-sum;
+        sum_zero = sum_same m (encoded k m f) (summed k m f) (λ j l. before_last (suc j) l) ∙ summed_sum;
         even = odd_suc m (encoded k m f)
             ∙ ap₂ ◌⊕◌ (ap (bit 0) (count_same m (encoded k m f) (summed k m f) (λ j l. before_last (suc j) l)))
             (last_row ∙ ap (λ (b : Bool). summed k m f (suc m) ⊕ b) (odd_suc m (summed k m f)))
@@ -170,12 +170,12 @@ module _ (k m : ℕ) (f : Lane) (hm : m < 2 ^ k) where
       }
 
   -- the data rows are as they were
-  pub encoded-data : (p : ℕ) → DataRow m p → encoded k m f p ≡ f p
-  encoded-data p d = before_last p d.last ∙ ap (λ (b : Bool). f p ⊕ b) (named_data m k (sum m f) p d) ∙ ⊕-zero (f p)
+  pub encoded_data : (p : ℕ) → DataRow m p → encoded k m f p ≡ f p
+  encoded_data p d = before_last p d.last ∙ ap (λ (b : Bool). f p ⊕ b) (named_data m k (sum m f) p d) ∙ ⊕-zero (f p)
 
   -- and it is the only valid lane with them
-  pub encoded-only : (g : Lane) → Valid m g → ((p : ℕ) → DataRow m p → g p ≡ f p) → (j : ℕ) → j < suc m → g (suc j) ≡ encoded k m f (suc j)
-  encoded-only g v s = at_most_one m g (encoded k m f) v encoded-valid (λ p d. s p d ∙ sym (encoded-data p d))
+  pub encoded_only : (g : Lane) → Valid m g → ((p : ℕ) → DataRow m p → g p ≡ f p) → (j : ℕ) → j < suc m → g (suc j) ≡ encoded k m f (suc j)
+  encoded_only g v s = at_most_one m g (encoded k m f) v encoded_valid (λ p d. s p d ∙ sym (encoded_data p d))
 
 -- ---- the check rows that a sum names, one by one
 

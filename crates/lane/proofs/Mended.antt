@@ -45,8 +45,8 @@ module _ (m : ℕ) (f : Lane) where
   by_right (lost kind) v ok = absurd (true≢false ok)
 
   -- a lane that is not lost is valid once mended
-  pub mended-valid : lost? (decide m f) ≡ false → Valid m (mended m f)
-  mended-valid ok = by_right (decide m f) (decided m f) ok
+  pub mended_valid : lost? (decide m f) ≡ false → Valid m (mended m f)
+  mended_valid ok = by_right (decide m f) (decided m f) ok
 
   past : (d : Decision) → Right m f d → (p : ℕ) → suc m < p → changes d p ≡ false
   past unchanged r p h = refl
@@ -54,8 +54,8 @@ module _ (m : ℕ) (f : Lane) where
   past (lost kind) r p h = refl
 
   -- no row past the last is changed
-  pub none-past : (p : ℕ) → suc m < p → changes (decide m f) p ≡ false
-  none-past = past (decide m f) (decided m f)
+  pub none_past : (p : ℕ) → suc m < p → changes (decide m f) p ≡ false
+  none_past = past (decide m f) (decided m f)
 
   changed : (d : Decision) → apart m f (diff f (changes d)) ≡ count (suc m) (changes d)
   changed d = count_same (suc m) (diff f (diff f (changes d))) (changes d) (λ j l. ⊕-cancel (f (suc j)) (changes d (suc j)))
@@ -65,19 +65,19 @@ module _ (m : ℕ) (f : Lane) where
   by_row s true e ok = let h = leb-true (suc s) m e in (only_within (suc m) (suc s) (omega arith) (omega arith)).0
   by_row s false e ok = absurd (true≢false ok)
 
-  by-case : (o : Bool) (s : ℕ) → lost? (decision m o s) ≡ false → count (suc m) (changes (decision m o s)) ≡ pick o 1
+  by_case : (o : Bool) (s : ℕ) → lost? (decision m o s) ≡ false → count (suc m) (changes (decision m o s)) ≡ pick o 1
   unfolding decision
-  by-case false zero ok = count_empty (suc m)
-  by-case false (suc s) ok = absurd (true≢false ok)
-  by-case true zero ok = (only_within (suc m) (suc m) (omega arith) (le_refl (suc m))).0
-  by-case true (suc s) ok = by_row s (leb (suc s) m) refl ok
+  by_case false zero ok = count_empty (suc m)
+  by_case false (suc s) ok = absurd (true≢false ok)
+  by_case true zero ok = (only_within (suc m) (suc m) (omega arith) (le_refl (suc m))).0
+  by_case true (suc s) ok = by_row s (leb (suc s) m) refl ok
 
   -- mending changes one row of an odd lane and none of an even one
-  pub mended-count : lost? (decide m f) ≡ false → apart m f (mended m f) ≡ pick (odd (suc m) f) 1
-  mended-count ok = changed (decide m f) ∙ by-case (odd (suc m) f) (sum m f) ok
+  pub mended_count : lost? (decide m f) ≡ false → apart m f (mended m f) ≡ pick (odd (suc m) f) 1
+  mended_count ok = changed (decide m f) ∙ by_case (odd (suc m) f) (sum m f) ok
 
-  pub mended-near : lost? (decide m f) ≡ false → apart m f (mended m f) ≤ 1
-  mended-near ok = rw (mended-count ok) (pick_one (odd (suc m) f))
+  pub mended_near : lost? (decide m f) ≡ false → apart m f (mended m f) ≤ 1
+  mended_near ok = rw (mended_count ok) (pick_one (odd (suc m) f))
 
   module _ (g : Lane) (v : Valid m g) (h : apart m f g ≤ 1) where
     by_near : (d : Decision) → Right m f d → lost? d ≡ false
@@ -86,12 +86,12 @@ module _ (m : ℕ) (f : Lane) where
     by_near (flipped p) r = refl
 
     -- a lane within one row of a valid one is not lost, and is mended to that one
-    pub near-kept : lost? (decide m f) ≡ false
-    near-kept = by_near (decide m f) (decided m f)
+    pub near_kept : lost? (decide m f) ≡ false
+    near_kept = by_near (decide m f) (decided m f)
 
-    pub near-mended : (j : ℕ) → j < suc m → mended m f (suc j) ≡ g (suc j)
-    near-mended = never_two m f (mended m f) g (mended-valid near-kept) v (mended-near near-kept) h
+    pub near_mended : (j : ℕ) → j < suc m → mended m f (suc j) ≡ g (suc j)
+    near_mended = never_two m f (mended m f) g (mended_valid near_kept) v (mended_near near_kept) h
 
   -- a valid lane is not lost and stays as it is
-  pub valid-near : Valid m f → apart m f f ≤ 1
-  valid-near v = rw (count_same (suc m) (diff f f) (λ p. false) (λ j l. ⊕-self (f (suc j))), count_empty (suc m)) (omega arith)
+  pub valid_near : Valid m f → apart m f f ≤ 1
+  valid_near v = rw (count_same (suc m) (diff f f) (λ p. false) (λ j l. ⊕-self (f (suc j))), count_empty (suc m)) (omega arith)

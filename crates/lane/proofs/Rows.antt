@@ -102,11 +102,11 @@ last_or_before l p k h =
 
 module _ (test : ℕ → Bool) where
   -- each entry is a row that passes
-  pub row-passes : (n k : ℕ) → k < length (rows_where test n)
+  pub row_passes : (n k : ℕ) → k < length (rows_where test n)
       → (1 ≤ get_or (rows_where test n) k 0) × (get_or (rows_where test n) k 0 ≤ n) × (test (get_or (rows_where test n) k 0) ≡ true)
   unfolding rows_where
-  row-passes zero k h = absurd (omega arith)
-  row-passes (suc n) k h = go (row-passes n k) (test (suc n)) refl h
+  row_passes zero k h = absurd (omega arith)
+  row_passes (suc n) k h = go (row_passes n k) (test (suc n)) refl h
     where
       go : (k < length (rows_where test n) → (1 ≤ get_or (rows_where test n) k 0) × (get_or (rows_where test n) k 0 ≤ n) × (test (get_or (rows_where test n) k 0) ≡ true))
           → (b : Bool) → test (suc n) ≡ b → k < length (rows_where test n ++ cond b (suc n ∷ []) [])
@@ -118,17 +118,17 @@ module _ (test : ℕ → Bool) where
       go ih false e h = rw (append-nil (rows_where test n)) (let r = ih (rw (append-nil (rows_where test n)) at h) in (r.0, omega (arith, r.1), r.2))
 
   -- each row that passes is an entry
-  pub row-there : (n p : ℕ) → 1 ≤ p → p ≤ n → test p ≡ true → (k : ℕ) × (k < length (rows_where test n)) × (get_or (rows_where test n) k 0 ≡ p)
+  pub row_there : (n p : ℕ) → 1 ≤ p → p ≤ n → test p ≡ true → (k : ℕ) × (k < length (rows_where test n)) × (get_or (rows_where test n) k 0 ≡ p)
   unfolding rows_where
-  row-there zero p l h e = absurd (omega arith)
-  row-there (suc n) p l h e =
+  row_there zero p l h e = absurd (omega arith)
+  row_there (suc n) p l h e =
       ⊎_elim
       (λ q.
       let t : test (suc n) ≡ true = ap test (sym q) ∙ e in
       let list = rows_where test n in
       rw t (length list, rw (length-append list (suc n ∷ [])) (omega arith), get_or-append_seam list (suc n) [] 0 ∙ sym q))
       (λ q.
-      let r = row-there n p l (omega arith) e in (
+      let r = row_there n p l (omega arith) e in (
         r.0,
         rw (length-append (rows_where test n) (cond (test (suc n)) (suc n ∷ []) [])) (omega (arith, r.1)),
         get_or-append (rows_where test n) (cond (test (suc n)) (suc n ∷ []) []) 0 r.0 r.1 ∙ r.2,
@@ -136,10 +136,10 @@ module _ (test : ℕ → Bool) where
       (eq-or-lt_of_le h)
 
   -- the entries rise
-  pub rows-rise : (n j k : ℕ) → j < k → k < length (rows_where test n) → get_or (rows_where test n) j 0 < get_or (rows_where test n) k 0
+  pub rows_rise : (n j k : ℕ) → j < k → k < length (rows_where test n) → get_or (rows_where test n) j 0 < get_or (rows_where test n) k 0
   unfolding rows_where
-  rows-rise zero j k l h = absurd (omega arith)
-  rows-rise (suc n) j k l h = go (rows-rise n j k l) (test (suc n)) h
+  rows_rise zero j k l h = absurd (omega arith)
+  rows_rise (suc n) j k l h = go (rows_rise n j k l) (test (suc n)) h
     where
       go : (k < length (rows_where test n) → get_or (rows_where test n) j 0 < get_or (rows_where test n) k 0) → (b : Bool)
           → k < length (rows_where test n ++ cond b (suc n ∷ []) [])
@@ -149,6 +149,6 @@ module _ (test : ℕ → Bool) where
           (λ q. rw (q.1, get_or-append (rows_where test n) (suc n ∷ []) 0 j (omega (arith, q.0))) (ih q.0))
           (λ q.
           let w : j < length (rows_where test n) = omega (arith, q.0) in
-          rw (q.1, get_or-append (rows_where test n) (suc n ∷ []) 0 j w) (omega (arith, (row-passes n j w).1)))
+          rw (q.1, get_or-append (rows_where test n) (suc n ∷ []) 0 j w) (omega (arith, (row_passes n j w).1)))
           (last_or_before (rows_where test n) (suc n) k h)
       go ih false h = rw (append-nil (rows_where test n)) (ih (rw (append-nil (rows_where test n)) at h))

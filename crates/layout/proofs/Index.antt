@@ -46,18 +46,18 @@ module _ (rows s : ℕ) (first : 1 ≤ s) where
   pub row_of : (block k : ℕ) → k < rows → index_by rows s block (suc k) / s % rows ≡ k
   row_of block k h = rw (line_of block k) (digits_mod (block / s) h)
 
-  pub one-to-one : (a p b q : ℕ) → 1 ≤ p → p ≤ rows → 1 ≤ q → q ≤ rows
+  pub one_to_one : (a p b q : ℕ) → 1 ≤ p → p ≤ rows → 1 ≤ q → q ≤ rows
       → index_by rows s a p ≡ index_by rows s b q → (a ≡ b) × (p ≡ q)
-  one-to-one a zero b q l h m i e = absurd (omega arith)
-  one-to-one a (suc j) b zero l h m i e = absurd (omega arith)
-  one-to-one a (suc j) b (suc k) l h m i e = (
+  one_to_one a zero b q l h m i e = absurd (omega arith)
+  one_to_one a (suc j) b zero l h m i e = absurd (omega arith)
+  one_to_one a (suc j) b (suc k) l h m i e = (
     sym (block_of a j h) ∙ ap (λ (x : ℕ). x / s / rows * s + x % s) e ∙ block_of b k i,
     ap suc (sym (row_of a j h) ∙ ap (λ (x : ℕ). x / s % rows) e ∙ row_of b k i),
   )
 
-  pub in-range : (g block p : ℕ) → block < g * s → 1 ≤ p → p ≤ rows → index_by rows s block p < rows * (g * s)
-  in-range g block zero inside l h = absurd (omega arith)
-  in-range g block (suc k) inside l h =
+  pub in_range : (g block p : ℕ) → block < g * s → 1 ≤ p → p ≤ rows → index_by rows s block p < rows * (g * s)
+  in_range g block zero inside l h = absurd (omega arith)
+  in_range g block (suc k) inside l h =
       omega (
         arith,
         digits block k,
@@ -67,7 +67,7 @@ module _ (rows s : ℕ) (first : 1 ≤ s) where
       )
 
   -- the words of a group, row by row
-  pub row-in-group : (q j : ℕ) → j < rows * s → (q * (rows * s) + j) / s % rows ≡ j / s
-  row-in-group q j h =
+  pub row_in_group : (q j : ℕ) → j < rows * s → (q * (rows * s) + j) / s % rows ≡ j / s
+  row_in_group q j h =
       let e : q * (rows * s) + j ≡ (q * rows + j / s) * s + j % s = omega (arith, add-mul (q * rows) (j / s) s, mul_assoc q rows s, div-add-mod' j s) in
       rw (e, digits_div (q * rows + j / s) (mod-lt j first), digits_mod q ((div-lt_iff_lt-mul first).1 h))

@@ -43,30 +43,30 @@ pub record Accepted (len : ℕ) (layout : Layout) (block : ℕ) : Type 0 where
 module _ (layout : Layout) where
   -- ---- the rungs
 
-  shape-rung : Rung (no_shape layout) (shape_rung layout)
-  shape-rung = rung_neither (no_shape layout) layout.shape (λ r. r) (λ r. r)
+  shape_rung_lem : Rung (no_shape layout) (shape_rung layout)
+  shape_rung_lem = rung_neither (no_shape layout) layout.shape (λ r. r) (λ r. r)
 
-  interleave-rung : Rung (bad_interleave layout) (interleave_rung layout)
-  interleave-rung =
+  interleave_rung_lem : Rung (bad_interleave layout) (interleave_rung layout)
+  interleave_rung_lem =
       let s = layout.s in
       rung_tests (bad_interleave layout) (eqb s 0) (ltb 16 s) (λ e. inl (eqb-true s 0 e)) (λ e. inr (ltb-true 16 s e))
       (λ e f. ⊎_elim (eqb-false s 0 e) (λ l. let m = ltb-false 16 s f in omega arith))
 
-  groups-rung : Rung (bad_groups layout) (groups_rung layout)
-  groups-rung =
+  groups_rung_lem : Rung (bad_groups layout) (groups_rung layout)
+  groups_rung_lem =
       let g = layout.g in
       let n = blocks layout in
       rung_tests (bad_groups layout) (eqb g 0) (ltb 4096 n) (λ e. inl (eqb-true g 0 e)) (λ e. inr (ltb-true 4096 n e))
       (λ e f. ⊎_elim (eqb-false g 0 e) (λ l. let m = ltb-false 4096 n f in omega arith))
 
-  pub length-rung : (len : ℕ) → Rung (bad_length len layout) (length_rung len layout)
-  length-rung len =
+  pub length_rung_lem : (len : ℕ) → Rung (bad_length len layout) (length_rung len layout)
+  length_rung_lem len =
       rung_test (bad_length len layout) (not (eqb len (rows_of layout * blocks layout)))
       (λ e. eqb-false _ _ (not-true _ e))
       (λ e r. r (eqb-true _ _ (not-false _ e)))
 
-  pub block-rung : (block : ℕ) → Rung (no_block layout block) (block_rung layout block)
-  block-rung block =
+  pub block_rung_lem : (block : ℕ) → Rung (no_block layout block) (block_rung layout block)
+  block_rung_lem block =
       rung_test (no_block layout block) (leb (blocks layout) block) (leb-true _ _) (λ e l. let m = leb-false (blocks layout) block e in omega arith)
 
   -- ---- nothing refused
@@ -76,10 +76,10 @@ module _ (layout : Layout) where
   geometry e =
       let p = then_zero (shape_rung layout) _ e in
       let q = then_zero (interleave_rung layout) _ p.1 in
-      let interleave = rung_passed (bad_interleave layout) (interleave_rung layout) (λ z. omega arith) interleave-rung q.0 in
-      let groups = rung_passed (bad_groups layout) (groups_rung layout) (λ z. omega arith) groups-rung q.1 in
+      let interleave = rung_passed (bad_interleave layout) (interleave_rung layout) (λ z. omega arith) interleave_rung_lem q.0 in
+      let groups = rung_passed (bad_groups layout) (groups_rung layout) (λ z. omega arith) groups_rung_lem q.1 in
       record {
-        shape_known = one_or_two layout.shape (rung_passed (no_shape layout) (shape_rung layout) (λ z. omega arith) shape-rung p.0);
+        shape_known = one_or_two layout.shape (rung_passed (no_shape layout) (shape_rung layout) (λ z. omega arith) shape_rung_lem p.0);
         s_first = not_zero layout.s (λ z. interleave (inl z));
         s_last = not_above 16 layout.s (λ l. interleave (inr l));
         g_first = not_zero layout.g (λ z. groups (inl z));
@@ -87,62 +87,62 @@ module _ (layout : Layout) where
       }
 
   -- an image that is accepted has its layout's length, and its layout is accepted
-  pub image-layout : (len : ℕ) → image_refusal len layout ≡ 0 → layout_refusal layout ≡ 0
+  pub image_layout : (len : ℕ) → image_refusal len layout ≡ 0 → layout_refusal layout ≡ 0
   unfolding image_refusal
-  image-layout len e = (then_zero (layout_refusal layout) (length_rung len layout) e).0
+  image_layout len e = (then_zero (layout_refusal layout) (length_rung len layout) e).0
 
-  pub image-exact : (len : ℕ) → image_refusal len layout ≡ 0 → len ≡ rows_of layout * blocks layout
+  pub image_exact : (len : ℕ) → image_refusal len layout ≡ 0 → len ≡ rows_of layout * blocks layout
   unfolding image_refusal
-  image-exact len e =
+  image_exact len e =
       let q = then_zero (layout_refusal layout) (length_rung len layout) e in
       not_other len (rows_of layout * blocks layout)
-      (rung_passed (bad_length len layout) (length_rung len layout) (λ z. omega arith) (length-rung len) q.1)
+      (rung_passed (bad_length len layout) (length_rung len layout) (λ z. omega arith) (length_rung_lem len) q.1)
 
   -- and at most 72·4,096 words
-  pub image-few : (len : ℕ) → image_refusal len layout ≡ 0 → len ≤ 294912
-  image-few len e =
-      let ok = geometry (image-layout len e) in
-      omega (arith, image-exact len e, mul-le-mul (rows_fit (shape_of layout)) ok.n_last)
+  pub image_few : (len : ℕ) → image_refusal len layout ≡ 0 → len ≤ 294912
+  image_few len e =
+      let ok = geometry (image_layout len e) in
+      omega (arith, image_exact len e, mul-le-mul (rows_fit (shape_of layout)) ok.n_last)
 
   -- no more groups than blocks
-  pub groups-few : Geometry layout → layout.g ≤ 4096
-  groups-few ok =
+  pub groups_few : Geometry layout → layout.g ≤ 4096
+  groups_few ok =
       let same : layout.g ≤ layout.g = omega arith in
       omega (arith, ok.n_last, mul-le-mul same ok.s_first)
 
-  pub block-image : (len block : ℕ) → block_refusal len layout block ≡ 0 → image_refusal len layout ≡ 0
+  pub block_image : (len block : ℕ) → block_refusal len layout block ≡ 0 → image_refusal len layout ≡ 0
   unfolding block_refusal
-  block-image len block e = (then_zero (image_refusal len layout) (block_rung layout block) e).0
+  block_image len block e = (then_zero (image_refusal len layout) (block_rung layout block) e).0
 
   pub accepted : (len block : ℕ) → block_refusal len layout block ≡ 0 → Accepted len layout block
   unfolding block_refusal
   accepted len block e =
       let p = then_zero (image_refusal len layout) (block_rung layout block) e in
       record {
-        geometry = geometry (image-layout len p.0);
-        exact = image-exact len p.0;
-        inside = lt_of_not-le (rung_passed (no_block layout block) (block_rung layout block) (λ z. omega arith) (block-rung block) p.1);
+        geometry = geometry (image_layout len p.0);
+        exact = image_exact len p.0;
+        inside = lt_of_not-le (rung_passed (no_block layout block) (block_rung layout block) (λ z. omega arith) (block_rung_lem block) p.1);
       }
 
   -- a block below N of an image that is accepted is accepted
-  pub block-accepted : (len block : ℕ) → image_refusal len layout ≡ 0 → block < blocks layout → block_refusal len layout block ≡ 0
+  pub block_accepted : (len block : ℕ) → image_refusal len layout ≡ 0 → block < blocks layout → block_refusal len layout block ≡ 0
   unfolding block_refusal
-  block-accepted len block e h = rw (e, lt-leb (blocks layout) block h)
+  block_accepted len block e h = rw (e, lt-leb (blocks layout) block h)
 
   -- ---- each ladder is the first of its rules
 
-  pub layout-first : FirstOf (layout_rules layout) (layout_refusal layout)
+  pub layout_first : FirstOf (layout_rules layout) (layout_refusal layout)
   unfolding layout_refusal
-  layout-first =
+  layout_first =
       rw (← then_assoc (shape_rung layout) (interleave_rung layout) (groups_rung layout))
       (first_more (no_shape layout ∷ bad_interleave layout ∷ []) (bad_groups layout) _ _ tt
-      (first_more (no_shape layout ∷ []) (bad_interleave layout) _ _ tt shape-rung interleave-rung)
-      groups-rung)
+      (first_more (no_shape layout ∷ []) (bad_interleave layout) _ _ tt shape_rung_lem interleave_rung_lem)
+      groups_rung_lem)
 
-  pub image-first : (len : ℕ) → FirstOf (image_rules len layout) (image_refusal len layout)
+  pub image_first : (len : ℕ) → FirstOf (image_rules len layout) (image_refusal len layout)
   unfolding image_refusal
-  image-first len = first_more (layout_rules layout) (bad_length len layout) _ _ tt layout-first (length-rung len)
+  image_first len = first_more (layout_rules layout) (bad_length len layout) _ _ tt layout_first (length_rung_lem len)
 
-  pub block-first : (len block : ℕ) → FirstOf (block_rules len layout block) (block_refusal len layout block)
+  pub block_first : (len block : ℕ) → FirstOf (block_rules len layout block) (block_refusal len layout block)
   unfolding block_refusal
-  block-first len block = first_more (image_rules len layout) (no_block layout block) _ _ tt (image-first len) (block-rung block)
+  block_first len block = first_more (image_rules len layout) (no_block layout block) _ _ tt (image_first len) (block_rung_lem block)

@@ -11,7 +11,7 @@ use Rattle.layout.specs.declared.Site.TheVariants.{Nowhere, At}
 use Rattle.layout.specs.Layout.{shape_number, shape_numbered, shape_of, rows_of, index}
 use Rattle.layout.specs.Refusal.{block_refusal}
 use Rattle.layout.specs.Site.{site_number, site_shape, site_first, site_if, site_of, Locates}
-use Rattle.layout.proofs.Index.{stride, in-range}
+use Rattle.layout.proofs.Index.{stride, in_range}
 use Rattle.layout.proofs.Ladder.{accepted}
 
 pub nowhere : (number : ℕ) (shape : Shape) (at : ℕ) → (number ≡ 0 → ⊥) → site_if number shape at ≡ Nowhere number
@@ -43,16 +43,16 @@ module _ (len : ℕ) (layout : Layout) (block : ℕ) where
       by zero p q = record { passed = p; same_shape = cc; first = cc }
       by (suc n) p q = let z : ◌≡◌ {A = ℕ} 0 1 = cc in absurd (omega arith)
 
-  pub is-site : {shape : Shape} {at : ℕ} → Located len layout block shape at → At shape at ≡ site_of len layout block
+  pub is_site : {shape : Shape} {at : ℕ} → Located len layout block shape at → At shape at ≡ site_of len layout block
   unfolding site_of
-  is-site l = rw (l.passed, l.same_shape, l.first)
+  is_site l = rw (l.passed, l.same_shape, l.first)
 
   -- its rows lie in the image
   pub rows_inside : {shape : Shape} {at : ℕ} → Located len layout block shape at → (k : ℕ) → k < rows_of layout → at + k * layout.s < len
   rows_inside l k h =
       let ok = accepted layout len block l.passed in
       rw (l.first, ← stride (rows_of layout) layout.s block k, ok.exact)
-      (in-range (rows_of layout) layout.s ok.geometry.s_first layout.g block (suc k) ok.inside (omega arith) h)
+      (in_range (rows_of layout) layout.s ok.geometry.s_first layout.g block (suc k) ok.inside (omega arith) h)
 
 -- ---- in numbers
 
@@ -76,9 +76,9 @@ unfolding shape_numbered
 numbered_shape n known = ⊎_elim (λ e. rw e) (λ e. rw e) known
 
 module _ (len : ℕ) (layout : Layout) (block : ℕ) where
-  locates-site : Locates len layout block (site_of len layout block)
+  locates_site : Locates len layout block (site_of len layout block)
   unfolding site_of
-  locates-site = by (block_refusal len layout block) refl
+  locates_site = by (block_refusal len layout block) refl
     where
       by : (n : ℕ) → block_refusal len layout block ≡ n → Locates len layout block (site_if n (shape_of layout) (index layout block 1))
       by zero e =
@@ -98,10 +98,10 @@ module _ (len : ℕ) (layout : Layout) (block : ℕ) where
 
   -- a site that is the block's keeps the promise, and what keeps it is the block's site
   pub locates : {site : Site} → site ≡ site_of len layout block → Locates len layout block site
-  locates e = rw e locates-site
+  locates e = rw e locates_site
 
-  pub locates-is : {site : Site} → Locates len layout block site → site ≡ site_of len layout block
-  locates-is {site} l =
-      let m = locates-site in
+  pub locates_is : {site : Site} → Locates len layout block site → site ≡ site_of len layout block
+  locates_is {site} l =
+      let m = locates_site in
       sites_told site (site_of len layout block) l.numbered m.numbered (l.number ∙ sym m.number) (l.shape ∙ sym m.shape)
       (l.first ∙ sym m.first)

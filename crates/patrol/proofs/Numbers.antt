@@ -78,17 +78,17 @@ module _ (r : Record) where
   -- ---- ask
 
   module _ (block : ℕ) where
-    pub ask-number : place_number (asked r block).place ≡ layout_refusal r.layout then ask_number (blocks r.layout) r.rota block
+    pub ask_number_lem : place_number (asked r block).place ≡ layout_refusal r.layout then ask_number (blocks r.layout) r.rota block
     unfolding asked
-    ask-number = go (layout_refusal r.layout)
+    ask_number_lem = go (layout_refusal r.layout)
       where
         go : (number : ℕ) → place_number (asked_by r block number).place ≡ number then ask_number (blocks r.layout) r.rota block
         go zero = rotaNumbers.ask-number (blocks r.layout) r.rota block
         go (suc number) = refl
 
-    pub ask-numbered : (asked r block).place ≡ NoPlace 0 → ⊥
+    pub ask_numbered : (asked r block).place ≡ NoPlace 0 → ⊥
     unfolding asked
-    ask-numbered = go (layout_refusal r.layout)
+    ask_numbered = go (layout_refusal r.layout)
       where
         go : (number : ℕ) → (asked_by r block number).place ≡ NoPlace 0 → ⊥
         go zero e = rotaNumbers.ask-numbered (blocks r.layout) r.rota block e
@@ -97,17 +97,17 @@ module _ (r : Record) where
   -- ---- turn
 
   module _ (image : List ℕ) where
-    pub turn-number : report_number (turned r image).report ≡ image_refusal (length image) r.layout then turn_number (blocks r.layout) r.rota
+    pub turn_number_lem : report_number (turned r image).report ≡ image_refusal (length image) r.layout then turn_number (blocks r.layout) r.rota
     unfolding turned
-    turn-number = go (image_refusal (length image) r.layout)
+    turn_number_lem = go (image_refusal (length image) r.layout)
       where
         go : (number : ℕ) → report_number (turned_by r image number).report ≡ number then turn_number (blocks r.layout) r.rota
         go zero = reported_number r.layout image (turned_now r).due ∙ rotaNumbers.turn-number (blocks r.layout) r.rota
         go (suc number) = refl
 
-    pub turn-numbered : (turned r image).report ≡ Refused 0 → ⊥
+    pub turn_numbered : (turned r image).report ≡ Refused 0 → ⊥
     unfolding turned
-    turn-numbered = go (image_refusal (length image) r.layout)
+    turn_numbered = go (image_refusal (length image) r.layout)
       where
         go : (number : ℕ) → (turned_by r image number).report ≡ Refused 0 → ⊥
         go zero e = rotaNumbers.turn-numbered (blocks r.layout) r.rota (reported_refused r.layout image (turned_now r).due e)

@@ -8,7 +8,7 @@ use Rattle.ground.specs.Choice.{if_zero}
 use Rattle.ground.specs.Ladder.{◌then◌}
 use Rattle.block.specs.declared.Verdict.{Verdict}
 use Rattle.block.specs.Verdict.{Said}
-use Rattle.block.proofs.Verdicts.{verdict-says}
+use Rattle.block.proofs.Verdicts.{verdict_says}
 use Rattle.layout.specs.declared.Layout.{Layout}
 use Rattle.layout.specs.Layout.{shape_of, blocks}
 use Rattle.layout.specs.Refusal.{layout_refusal, image_refusal}
@@ -30,7 +30,7 @@ use Rattle.patrol.specs.Numbers.{Seen, seen_of, unseen, report_first, report_sec
 use Rattle.patrol.specs.Format.{formatted, Formats}
 use Rattle.patrol.specs.Ask.{with_rota, with_ask, asked, asked_by, ask_refused, Asks}
 use Rattle.patrol.specs.Turn.{with_turn, seen_in, ask_seen, ask_visited, seen, visited, reported, patrolled, turned, turned_by, turn_after, turn_refused, Turns}
-use Rattle.patrol.proofs.Numbers.{reports_told, ask-number, ask-numbered, turn-number, turn-numbered}
+use Rattle.patrol.proofs.Numbers.{reports_told, ask_number_lem, ask_numbered, turn_number_lem, turn_numbered}
 
 -- ---- format
 
@@ -39,9 +39,9 @@ module _ (image : List ℕ) (layout : Layout) {answer : Formatted} {after : List
   unfolding formatted
   formats e f = record { number = ap (λ (a : Formatted). a.number) e; back = ap (λ (a : Formatted). a.back) e; leaves = f }
 
-  pub formats-answer : Formats image layout answer after → answer ≡ formatted image layout
+  pub formats_answer : Formats image layout answer after → answer ≡ formatted image layout
   unfolding formatted
-  formats-answer p = let number = p.number in let back = p.back in λ i. record { number = number i; back = back i }
+  formats_answer p = let number = p.number in let back = p.back in λ i. record { number = number i; back = back i }
 
 -- ---- ask
 
@@ -50,44 +50,44 @@ module _ (r : Record) (block : ℕ) where
   n = blocks r.layout
 
   -- the answer, by the refusals of the layout and of the rota
-  abbrev askedWith : ℕ → ℕ → Asked
-  askedWith number later =
+  abbrev asked_with : ℕ → ℕ → Asked
+  asked_with number later =
       if_zero number
       (record { place = (rotaNumbers.answer_by n r.rota block later).place; back = with_rota r (rotaNumbers.answer_by n r.rota block later).rota })
       (record { place = NoPlace number; back = r })
 
-  asks-asked : Asks r block (asked r block)
+  asks_asked : Asks r block (asked r block)
   unfolding asked rota_asked
-  asks-asked =
+  asks_asked =
       record {
-        number = ask-number r block;
+        number = ask_number_lem r block;
         place = place (layout_refusal r.layout) (ask_number n r.rota block);
-        numbered = ask-numbered r block;
+        numbered = ask_numbered r block;
         back = back (layout_refusal r.layout) (ask_number n r.rota block);
       }
     where
-      place : (number later : ℕ) → place_given (askedWith number later).place ≡ if_zero (number then later) (ask_place (plan_of r.rota) block) 0
+      place : (number later : ℕ) → place_given (asked_with number later).place ≡ if_zero (number then later) (ask_place (plan_of r.rota) block) 0
       place zero zero = refl
       place zero (suc later) = refl
       place (suc number) later = refl
 
-      back : (number later : ℕ) → (askedWith number later).back ≡ if_zero (number then later) (with_ask r block) r
+      back : (number later : ℕ) → (asked_with number later).back ≡ if_zero (number then later) (with_ask r block) r
       back zero zero = refl
       back zero (suc later) = refl
       back (suc number) later = refl
 
   -- one answer keeps the promise
-  pub one-asked : {answer other : Asked} → Asks r block answer → Asks r block other → answer ≡ other
-  one-asked {answer} {other} p q =
+  pub one_asked : {answer other : Asked} → Asks r block answer → Asks r block other → answer ≡ other
+  one_asked {answer} {other} p q =
       let place = rotaNumbers.place_told answer.place other.place p.numbered q.numbered (p.number ∙ sym q.number) (p.place ∙ sym q.place) in
       let back = p.back ∙ sym q.back in
       λ i. record { place = place i; back = back i }
 
   pub asks : {answer : Asked} → answer ≡ asked r block → Asks r block answer
-  asks e = rw e asks-asked
+  asks e = rw e asks_asked
 
-  pub asks-answer : {answer : Asked} → Asks r block answer → answer ≡ asked r block
-  asks-answer p = one-asked p asks-asked
+  pub asks_answer : {answer : Asked} → Asks r block answer → answer ≡ asked r block
+  asks_answer p = one_asked p asks_asked
 
 -- ---- turn
 
@@ -96,8 +96,8 @@ module _ (r : Record) (image : List ℕ) where
   next = r.rota.next
 
   -- the answer, by the refusals of the image and of the rota, and the list of asks
-  abbrev turnedWith : ℕ → ℕ → List ℕ → Turned
-  turnedWith number later l =
+  abbrev turned_with : ℕ → ℕ → List ℕ → Turned
+  turned_with number later l =
       if_zero number
       (record {
         report = reported r.layout image (rotaNumbers.turnBy (blocks r.layout) r.rota later l).due;
@@ -115,38 +115,38 @@ module _ (r : Record) (image : List ℕ) where
   waiting = asks_of r.rota.line
 
   -- a visit that is seen says what is to be said
-  said-seen : (there : List ℕ) (block : ℕ) → seen_of block (seen r.layout there block) ≡ seen_in r.layout there block
-  said-seen there block =
-      ap (λ (s : Said). record { block = block; said = s }) (verdict-says (shape_of r.layout) (gathered r.layout block there))
+  said_seen : (there : List ℕ) (block : ℕ) → seen_of block (seen r.layout there block) ≡ seen_in r.layout there block
+  said_seen there block =
+      ap (λ (s : Said). record { block = block; said = s }) (verdict_says (shape_of r.layout) (gathered r.layout block there))
 
-  turns-turned : Turns r image (turned r image) (turn_after r image)
+  turns_turned : Turns r image (turned r image) (turn_after r image)
   unfolding turned turn_after rota_turned
-  turns-turned =
+  turns_turned =
       record {
-        number = turn-number r image;
+        number = turn_number_lem r image;
         first = first refused late waiting;
         second = second refused late waiting;
-        numbered = turn-numbered r image;
+        numbered = turn_numbered r image;
         back = back refused late waiting;
         leaves = leaves refused late waiting;
       }
     where
       first : (number later : ℕ) (l : List ℕ)
-          → report_first (turnedWith number later l).report ≡ if_zero (number then later) (seen_in r.layout image next) unseen
-      first zero zero [] = said-seen image next
-      first zero zero (a ∷ l) = said-seen image next
+          → report_first (turned_with number later l).report ≡ if_zero (number then later) (seen_in r.layout image next) unseen
+      first zero zero [] = said_seen image next
+      first zero zero (a ∷ l) = said_seen image next
       first zero (suc later) l = refl
       first (suc number) later l = refl
 
       second : (number later : ℕ) (l : List ℕ)
-          → report_second (turnedWith number later l).report ≡ if_zero (number then later) (ask_seen r.layout image next l) unseen
+          → report_second (turned_with number later l).report ≡ if_zero (number then later) (ask_seen r.layout image next l) unseen
       second zero zero [] = refl
-      second zero zero (a ∷ l) = said-seen (visited r.layout image next) a
+      second zero zero (a ∷ l) = said_seen (visited r.layout image next) a
       second zero (suc later) l = refl
       second (suc number) later l = refl
 
       back : (number later : ℕ) (l : List ℕ)
-          → (turnedWith number later l).back ≡ if_zero (number then later) (with_turn r) r
+          → (turned_with number later l).back ≡ if_zero (number then later) (with_turn r) r
       back zero zero l = refl
       back zero (suc later) l = refl
       back (suc number) later l = refl
@@ -160,15 +160,15 @@ module _ (r : Record) (image : List ℕ) where
       leaves (suc number) later l = refl
 
   -- one answer and one image keep the promise
-  pub one-turned : {answer other : Turned} {after also : List ℕ} → Turns r image answer after → Turns r image other also → (answer ≡ other) × (after ≡ also)
-  one-turned {answer} {other} p q =
+  pub one_turned : {answer other : Turned} {after also : List ℕ} → Turns r image answer after → Turns r image other also → (answer ≡ other) × (after ≡ also)
+  one_turned {answer} {other} p q =
       let report = reports_told answer.report other.report p.numbered q.numbered (p.number ∙ sym q.number) (p.first ∙ sym q.first)
       (p.second ∙ sym q.second) in
       let back = p.back ∙ sym q.back in
       (λ i. record { report = report i; back = back i }, p.leaves ∙ sym q.leaves)
 
   pub turns : {answer : Turned} {after : List ℕ} → answer ≡ turned r image → after ≡ turn_after r image → Turns r image answer after
-  turns e f = rw (e, f) turns-turned
+  turns e f = rw (e, f) turns_turned
 
-  pub turns-answer : {answer : Turned} {after : List ℕ} → Turns r image answer after → (answer ≡ turned r image) × (after ≡ turn_after r image)
-  turns-answer p = one-turned p turns-turned
+  pub turns_answer : {answer : Turned} {after : List ℕ} → Turns r image answer after → (answer ≡ turned r image) × (after ≡ turn_after r image)
+  turns_answer p = one_turned p turns_turned

@@ -20,7 +20,7 @@ use Rattle.patrol.specs.Format.{no_record, formatted}
 use Rattle.patrol.specs.Ask.{with_rota, asked_by, asked}
 use Rattle.patrol.specs.Turn.{patrolled, turned_now, turned_by, turned, turn_after}
 use Rattle.patrol.specs.Numbers.{report_number}
-use Rattle.patrol.proofs.Numbers.{ask-number, turn-number}
+use Rattle.patrol.proofs.Numbers.{ask_number_lem, turn_number_lem}
 
 pub format_unchanged : (image : List ℕ) (layout : Layout) → ((formatted image layout).number ≡ 0 → ⊥)
     → ((formatted image layout).back ≡ no_record) × (fresh_after image layout ≡ image)
@@ -29,10 +29,10 @@ format_unchanged image layout ne =
     (refused_kept (image_refusal (length image) layout) _ no_record ne, refused_kept (image_refusal (length image) layout) _ image ne)
 
 module _ (r : Record) where
-  pub ask-unchanged : (block : ℕ) → (place_number (asked r block).place ≡ 0 → ⊥) → (asked r block).back ≡ r
+  pub ask_unchanged : (block : ℕ) → (place_number (asked r block).place ≡ 0 → ⊥) → (asked r block).back ≡ r
   unfolding asked
-  ask-unchanged block ne =
-      go (layout_refusal r.layout) (ask_number (blocks r.layout) r.rota block) refl (λ z. ne (ask-number r block ∙ z))
+  ask_unchanged block ne =
+      go (layout_refusal r.layout) (ask_number (blocks r.layout) r.rota block) refl (λ z. ne (ask_number_lem r block ∙ z))
     where
       go : (number later : ℕ) → ask_number (blocks r.layout) r.rota block ≡ later → (number then later ≡ 0 → ⊥) → (asked_by r block number).back ≡ r
       go zero zero e some = absurd (some refl)
@@ -40,10 +40,10 @@ module _ (r : Record) where
           ap (λ (a : RotaAsked). with_rota r a.rota) (rotaNumbers.ask-refused (blocks r.layout) r.rota block later e)
       go (suc number) later e some = refl
 
-  pub turn-unchanged : (image : List ℕ) → (report_number (turned r image).report ≡ 0 → ⊥) → ((turned r image).back ≡ r) × (turn_after r image ≡ image)
+  pub turn_unchanged : (image : List ℕ) → (report_number (turned r image).report ≡ 0 → ⊥) → ((turned r image).back ≡ r) × (turn_after r image ≡ image)
   unfolding turned turn_after
-  turn-unchanged image ne =
-      go (image_refusal (length image) r.layout) (turn_number (blocks r.layout) r.rota) refl (λ z. ne (turn-number r image ∙ z))
+  turn_unchanged image ne =
+      go (image_refusal (length image) r.layout) (turn_number (blocks r.layout) r.rota) refl (λ z. ne (turn_number_lem r image ∙ z))
     where
       go : (number later : ℕ) → turn_number (blocks r.layout) r.rota ≡ later → (number then later ≡ 0 → ⊥)
           → ((turned_by r image number).back ≡ r) × (if_zero number (patrolled r.layout image (turned_now r).due) image ≡ image)

@@ -9,7 +9,7 @@ use Rattle.shape.proofs.Sizes.{rows_fit}
 use Rattle.block.proofs.Told.{count_most}
 use Rattle.layout.specs.declared.Layout.{Layout}
 use Rattle.layout.specs.Layout.{shape_of}
-use Rattle.store.proofs.Image.{length-gathered}
+use Rattle.store.proofs.Image.{length_gathered}
 use Rattle.report.specs.declared.Tally.{Tally}
 use Rattle.report.specs.Lines.{counted}
 use Rattle.report.specs.Report.{visited_below, verdict_at, tally_below}
@@ -30,13 +30,13 @@ one_more n (Lost e b) tally c w =
     record { clean = omega (arith, w.clean); mended = omega (arith, w.mended); lost = omega (arith, w.lost); bits = omega (arith, w.bits) }
 
 module _ (image : List ℕ) (layout : Layout) where
-  pub verdict-most : (n : ℕ) → verdict_count (verdict_at image layout n) + verdict_beyond (verdict_at image layout n) ≤ 32
+  pub verdict_most : (n : ℕ) → verdict_count (verdict_at image layout n) + verdict_beyond (verdict_at image layout n) ≤ 32
   unfolding verdict_at
-  verdict-most n =
+  verdict_most n =
       count_most (shape_of layout) _
-      (rw (length-gathered layout n (visited_below image layout n)) (rows_fit (shape_of layout)))
+      (rw (length_gathered layout n (visited_below image layout n)) (rows_fit (shape_of layout)))
 
-  pub tally-within : (n : ℕ) → Within n (tally_below (verdict_at image layout) n)
+  pub tally_within : (n : ℕ) → Within n (tally_below (verdict_at image layout) n)
   unfolding tally_below
-  tally-within zero = record { clean = omega arith; mended = omega arith; lost = omega arith; bits = omega arith }
-  tally-within (suc n) = one_more n (verdict_at image layout n) (tally_below (verdict_at image layout) n) (omega (arith, verdict-most n)) (tally-within n)
+  tally_within zero = record { clean = omega arith; mended = omega arith; lost = omega arith; bits = omega arith }
+  tally_within (suc n) = one_more n (verdict_at image layout n) (tally_below (verdict_at image layout) n) (omega (arith, verdict_most n)) (tally_within n)

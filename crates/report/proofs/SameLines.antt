@@ -9,13 +9,13 @@ use Rattle.report.specs.Lines.{counted}
 use Rattle.report.specs.Report.{block_lines, tally_below, lines_by}
 
 module _ (u v : ℕ → Verdict) where
-  blocks-same : (n : ℕ) → ((k : ℕ) → k < n → u k ≡ v k) → (block_lines u n ≡ block_lines v n) × (tally_below u n ≡ tally_below v n)
+  blocks_same : (n : ℕ) → ((k : ℕ) → k < n → u k ≡ v k) → (block_lines u n ≡ block_lines v n) × (tally_below u n ≡ tally_below v n)
   unfolding block_lines tally_below
-  blocks-same zero same = (refl, refl)
-  blocks-same (suc n) same =
-      let less = blocks-same n (λ k h. same k (omega arith)) in
+  blocks_same zero same = (refl, refl)
+  blocks_same (suc n) same =
+      let less = blocks_same n (λ k h. same k (omega arith)) in
       let last = same n (omega arith) in
       (rw (less.0, last), ap₂ counted last less.1)
 
   pub lines_same : (layout : Layout) → ((k : ℕ) → k < blocks layout → u k ≡ v k) → lines_by layout u ≡ lines_by layout v
-  lines_same layout same = let both = blocks-same (blocks layout) same in rw (both.0, both.1)
+  lines_same layout same = let both = blocks_same (blocks layout) same in rw (both.0, both.1)

@@ -32,7 +32,7 @@ use Rattle.layout.specs.Refusal.{length_rung}
 use Rattle.file.specs.Refusal.{file_refusal, read_refusal}
 use Rattle.file.specs.Reason.{file_rules}
 use Rattle.file.specs.Header.{header_if, header_of}
-use Rattle.file.proofs.Ladder.{Accepted, accepted, file-first}
+use Rattle.file.proofs.Ladder.{Accepted, accepted, file_first}
 use Rattle.file.proofs.FileReads.{words_exact}
 use Rattle.report.specs.declared.Tally.{Tally}
 use Rattle.ground.proofs.Bools.{left_part, right_part}
@@ -42,7 +42,7 @@ use Rattle.report.specs.Lines.{refusal_line, image_line, verdict_parts, block_li
 use Rattle.report.specs.Report.{visited_below, block_lines, tally_below, verdict_at, image_report, report_for, report_of, Inspects}
 use Rattle.report.specs.Inner.{header_for, Reports}
 use Rattle.report.proofs.Short.{Short, ◌and◌, named_short, any_length, loosely, one_end, nothing, and_then, one_text, one_number}
-use Rattle.report.proofs.Counts.{Within, verdict-most, tally-within}
+use Rattle.report.proofs.Counts.{Within, verdict_most, tally_within}
 use Rattle.text.proofs.Decimal.{decimal_short}
 use Rattle.text.proofs.Pages.{all_fit}
 
@@ -163,7 +163,7 @@ unfolding block_lines tally_below end_to_end verdict_at
 blocks_short image layout zero h = omega arith
 blocks_short image layout (suc n) h =
     let v = verdict_at image layout n in
-    let small = verdict-most image layout n in
+    let small = verdict_most image layout n in
     let second = second_digits (shape_of layout) (gathered layout n (visited_below image layout n)) (omega arith) in
     omega (
       arith,
@@ -195,7 +195,7 @@ report_short image layout ok h =
       end_to_end_last (block_lines (verdict_at image layout) n) total,
       blocks_short image layout n few,
       lines_most (shape_of layout) n h,
-      (total_short n (tally_below (verdict_at image layout) n) few (tally-within image layout n)).few,
+      (total_short n (tally_below (verdict_at image layout) n) few (tally_within image layout n)).few,
     )
 
 -- ---- the report of a file
@@ -211,8 +211,8 @@ file_most bytes ok =
     let body = ok.body ∙ ap size one in
     (rw one (omega arith), omega arith))
     (λ (e : (layout_in bytes).shape ≡ 2).
-    let not-one : (layout_in bytes).shape ≡ 1 → ⊥ = λ q. omega (arith, e) in
-    let two = shape_two (layout_in bytes).shape not-one in
+    let not_one_lem : (layout_in bytes).shape ≡ 1 → ⊥ = λ q. omega (arith, e) in
+    let two = shape_two (layout_in bytes).shape not_one_lem in
     let body = ok.body ∙ ap size two in
     (rw two (omega arith), omega arith))
     ok.geometry.shape_known
@@ -232,15 +232,15 @@ first_low (rule ∷ rules) given t first =
     first
 
 number_most : (bytes : List ℕ) → file_refusal bytes ≤ 11
-number_most bytes = first_low (file_rules bytes) (file_refusal bytes) tt (file-first bytes)
+number_most bytes = first_low (file_rules bytes) (file_refusal bytes) tt (file_first bytes)
 
 module _ (bytes : List ℕ) where
   abbrev found : Header
   found = Image (layout_in bytes)
 
-  pub file-short : length (end_to_end (report_of bytes)) ≤ 10204
+  pub file_short : length (end_to_end (report_of bytes)) ≤ 10204
   unfolding report_of header_of end_to_end
-  file-short = by (file_refusal bytes) refl
+  file_short = by (file_refusal bytes) refl
     where
       by : (n : ℕ) → file_refusal bytes ≡ n → length (end_to_end (report_for (header_if n found) (image_in bytes))) ≤ 10204
       by zero e =
@@ -252,9 +252,9 @@ module _ (bytes : List ℕ) where
           omega (arith, length-append (refusal_line (suc n)) [])
 
   -- an image of 8,176 words has room, so that none is refused for its length
-  file-room : (room : ℕ) → 8176 ≤ room → header_for bytes (min (word_count (length bytes)) room) ≡ header_of bytes
+  file_room : (room : ℕ) → 8176 ≤ room → header_for bytes (min (word_count (length bytes)) room) ≡ header_of bytes
   unfolding header_of read_refusal
-  file-room room h = by (file_refusal bytes) refl
+  file_room room h = by (file_refusal bytes) refl
     where
       count : ℕ
       count = min (word_count (length bytes)) room
@@ -275,10 +275,10 @@ pub report_whole : {bytes out printed : List ℕ} {room next : ℕ} → Reports 
 unfolding report_of
 report_whole {bytes} {out} {printed} {room} {next} r h k =
     let text = end_to_end (report_of bytes) in
-    let short = file-short bytes in
+    let short = file_short bytes in
     let there : page printed next ≡ page (text ++ drop (length text) out) (length text) =
     r
-    ∙ ap (λ (header : Header). written_all (report_for header (image_in bytes)) (page out 0)) (file-room bytes room h)
+    ∙ ap (λ (header : Header). written_all (report_for header (image_in bytes)) (page out 0)) (file_room bytes room h)
     ∙ all_fit (report_of bytes) out 0 (omega arith)
     ∙ ap (λ (n : ℕ). page (text ++ drop n out) n) (zero-add (length text)) in
     record {

@@ -20,17 +20,17 @@ module _ (line : Line) where
   pub used : (k : ℕ) → k < length (asks_of line) → InUse line k
   used k h = let e = length-take line.waiting line.asks in (omega arith, omega arith)
 
-  pub used-inside : (k : ℕ) → InUse line k → k < length (asks_of line)
-  used-inside k u = omega (arith, length-take line.waiting line.asks, u.0, u.1)
+  pub used_inside : (k : ℕ) → InUse line k → k < length (asks_of line)
+  used_inside k u = omega (arith, length-take line.waiting line.asks, u.0, u.1)
 
-  pub used-waits : (k : ℕ) → k < line.waiting → get_or (asks_of line) k 0 ≡ waits line k
-  used-waits k h = get_or-take line.waiting line.asks k 0 h
+  pub used_waits : (k : ℕ) → k < line.waiting → get_or (asks_of line) k 0 ≡ waits line k
+  used_waits k h = get_or-take line.waiting line.asks k 0 h
 
-  pub some-used : (P : ℕ → Type 0) (k : ℕ) → InUse line k → P (waits line k) → Some P (asks_of line)
-  some-used P k u p = record { at = k; inside = used-inside k u; has = subst P (sym (used-waits k u.0)) p }
+  pub some_used : (P : ℕ → Type 0) (k : ℕ) → InUse line k → P (waits line k) → Some P (asks_of line)
+  some_used P k u p = record { at = k; inside = used_inside k u; has = subst P (sym (used_waits k u.0)) p }
 
-  pub used-some : (P : ℕ → Type 0) (s : Some P (asks_of line)) → P (waits line s.at)
-  used-some P s = subst P (used-waits s.at (used s.at s.inside).0) s.has
+  pub used_some : (P : ℕ → Type 0) (s : Some P (asks_of line)) → P (waits line s.at)
+  used_some P s = subst P (used_waits s.at (used s.at s.inside).0) s.has
 
 -- ---- the ways to break a line
 
@@ -40,14 +40,14 @@ module _ (capacity n : ℕ) (line : Line) where
       (capacity < line.waiting) ⊎
       ((Some (λ b. n ≤ b) (asks_of line) ⊎ Twice (asks_of line)) ⊎ Some (λ b. b ≡ 0 → ⊥) (unused_of line))
 
-  twice-broken : Twice (asks_of line) → BrokenLine capacity n line
-  twice-broken t =
+  twice_broken : Twice (asks_of line) → BrokenLine capacity n line
+  twice_broken t =
       let u = used line t.late t.inside in
       ask_twice t.early t.late t.order u
-      (sym (used-waits line t.early (omega (arith, t.order, u.0))) ∙ t.same ∙ used-waits line t.late u.0)
+      (sym (used_waits line t.early (omega (arith, t.order, u.0))) ∙ t.same ∙ used_waits line t.late u.0)
 
-  unused-broken : Some (λ b. b ≡ 0 → ⊥) (unused_of line) → BrokenLine capacity n line
-  unused-broken s =
+  unused_broken : Some (λ b. b ≡ 0 → ⊥) (unused_of line) → BrokenLine capacity n line
+  unused_broken s =
       let d = length-drop line.waiting line.asks in
       not_empty (line.waiting + s.at) (omega arith, omega (arith, s.inside))
       (λ z. s.has (get_or-drop line.waiting line.asks s.at 0 ∙ z))
@@ -55,11 +55,11 @@ module _ (capacity n : ℕ) (line : Line) where
   broken : Ways → BrokenLine capacity n line
   broken =
       ⊎_elim too_many
-      (⊎_elim (⊎_elim (λ s. ask_outside s.at (used line s.at s.inside) (used-some line (λ b. n ≤ b) s)) twice-broken) unused-broken)
+      (⊎_elim (⊎_elim (λ s. ask_outside s.at (used line s.at s.inside) (used_some line (λ b. n ≤ b) s)) twice_broken) unused_broken)
 
   ways : BrokenLine capacity n line → Ways
   ways (too_many h) = inl h
-  ways (ask_outside k u h) = inr (inl (inl (some-used line (λ b. n ≤ b) k u h)))
+  ways (ask_outside k u h) = inr (inl (inl (some_used line (λ b. n ≤ b) k u h)))
   ways (ask_twice k j h u e) =
       inr
       (inl
@@ -68,8 +68,8 @@ module _ (capacity n : ℕ) (line : Line) where
         early = k;
         late = j;
         order = h;
-        inside = used-inside line j u;
-        same = used-waits line k (omega (arith, u.0)) ∙ e ∙ sym (used-waits line j u.0);
+        inside = used_inside line j u;
+        same = used_waits line k (omega (arith, u.0)) ∙ e ∙ sym (used_waits line j u.0);
       }))
   ways (not_empty k u ne) =
       let e : line.waiting + (k - line.waiting) ≡ k = omega (arith, u.0) in
@@ -81,9 +81,9 @@ module _ (capacity n : ℕ) (line : Line) where
         has = λ z. ne (sym (get_or-drop line.waiting line.asks (k - line.waiting) 0 ∙ ap (waits line) e) ∙ z);
       })
 
-  pub sound-told : Told (BrokenLine capacity n line) (sound capacity n line)
+  pub sound_told : Told (BrokenLine capacity n line) (sound capacity n line)
   unfolding sound
-  sound-told =
+  sound_told =
       told_same broken ways
       (told_or (leb_told line.waiting capacity)
       (told_or (told_or (below_told n (asks_of line)) (twice_told (asks_of line))) (zeros_told (unused_of line))))
@@ -91,13 +91,13 @@ module _ (capacity n : ℕ) (line : Line) where
 -- ---- the record
 
 module _ (n : ℕ) (rota : Rota) where
-  pub unbroken-told : Told (Broken n rota) (unbroken n rota)
+  pub unbroken_told : Told (Broken n rota) (unbroken n rota)
   unfolding unbroken
-  unbroken-told = told_same (⊎_elim next_outside line_broken) ways-of (told_or (ltb_told rota.next n) (sound-told places n rota.line))
+  unbroken_told = told_same (⊎_elim next_outside line_broken) ways_of (told_or (ltb_told rota.next n) (sound_told places n rota.line))
     where
-      ways-of : Broken n rota → (n ≤ rota.next) ⊎ BrokenLine places n rota.line
-      ways-of (next_outside h) = inl h
-      ways-of (line_broken b) = inr b
+      ways_of : Broken n rota → (n ≤ rota.next) ⊎ BrokenLine places n rota.line
+      ways_of (next_outside h) = inl h
+      ways_of (line_broken b) = inr b
 
-  pub broken-exactly : (unbroken n rota ≡ false) ↔ Broken n rota
-  broken-exactly = told_exactly unbroken-told
+  pub broken_exactly : (unbroken n rota ≡ false) ↔ Broken n rota
+  broken_exactly = told_exactly unbroken_told

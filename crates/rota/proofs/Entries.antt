@@ -24,7 +24,7 @@ use Rattle.rota.specs.declared.RotaAsked.{RotaAsked}
 use Rattle.rota.specs.declared.Due.{Due}
 use Rattle.rota.specs.declared.Due.TheVariants.{One, Two, Refused as NoneDue}
 use Rattle.rota.proofs.Waiting.{place_le}
-use Rattle.rota.proofs.Lines.{Fit, sound-fit, sound-tidy}
+use Rattle.rota.proofs.Lines.{Fit, sound_fit, sound_tidy}
 use Rattle.rota.proofs.Plans.{Sound}
 
 -- ---- how many wait after an ask
@@ -46,23 +46,23 @@ after_given b w l e (suc k) f = sym (after_had w (suc k) (omega (arith, place_le
 module _ (n : ℕ) (r : Rota) where
   -- ---- whether a record is broken
 
-  pub next-fails : n ≤ r.next → false ≡ unbroken n r
+  pub next_fails : n ≤ r.next → false ≡ unbroken n r
   unfolding unbroken
-  next-fails h = rw (le-ltb r.next n h)
+  next_fails h = rw (le-ltb r.next n h)
 
-  pub unbroken-is : r.next < n → (t : Bool) → t ≡ sound places n r.line → t ≡ unbroken n r
+  pub unbroken_is : r.next < n → (t : Bool) → t ≡ sound places n r.line → t ≡ unbroken n r
   unfolding unbroken
-  unbroken-is h t e = rw (lt-ltb r.next n h) e
+  unbroken_is h t e = rw (lt-ltb r.next n h) e
 
   -- ---- a record that is broken
 
-  pub ask-broken : (b : ℕ) → unbroken n r ≡ false → record { place = NoPlace 5; rota = r } ≡ rota_asked n r b
+  pub ask_broken : (b : ℕ) → unbroken n r ≡ false → record { place = NoPlace 5; rota = r } ≡ rota_asked n r b
   unfolding rota_asked ask_number
-  ask-broken b e = rw e
+  ask_broken b e = rw e
 
-  pub turn-broken : unbroken n r ≡ false → record { due = NoneDue 5; rota = r } ≡ rota_turned n r
+  pub turn_broken : unbroken n r ≡ false → record { due = NoneDue 5; rota = r } ≡ rota_turned n r
   unfolding rota_turned turn_number
-  turn-broken e = rw e
+  turn_broken e = rw e
 
 -- ---- a record that is not
 
@@ -71,19 +71,19 @@ module _ (n : ℕ) (r : Rota) (ok : unbroken n r ≡ true) where
   unfolding unbroken
   parts = both (ltb r.next n) (sound places n r.line) ok
 
-  pub next-inside : r.next < n
-  next-inside = ltb-true r.next n parts.0
+  pub next_inside : r.next < n
+  next_inside = ltb-true r.next n parts.0
 
-  pub line-fit : Fit places n r.line
-  line-fit = sound-fit places n r.line parts.1
+  pub line_fit : Fit places n r.line
+  line_fit = sound_fit places n r.line parts.1
 
-  pub plan-fit : Sound places n (plan_of r)
-  plan-fit =
+  pub plan_fit : Sound places n (plan_of r)
+  plan_fit =
       record {
-        inside = next-inside;
-        few = omega (arith, line-fit.few, length-take r.line.waiting r.line.asks);
-        low = line-fit.low;
-        once = line-fit.once;
+        inside = next_inside;
+        few = omega (arith, line_fit.few, length-take r.line.waiting r.line.asks);
+        low = line_fit.low;
+        once = line_fit.once;
       }
 
 two_due : (next w : ℕ) (l : List ℕ) → 0 < w → 0 < length l → Two next (get_or l 0 0) ≡ due_of next (take w l)
@@ -92,36 +92,36 @@ two_due next (suc w) [] h k = absurd (omega arith)
 two_due next (suc w) (a ∷ l) h k = refl
 
 module _ (n : ℕ) (r : Rota) (long : length r.line.asks ≡ places) (ok : unbroken n r ≡ true) where
-  pub line-tidy : Tidy places r.line
-  line-tidy = sound-tidy places r.line long n (parts n r ok).1
+  pub line_tidy : Tidy places r.line
+  line_tidy = sound_tidy places r.line long n (parts n r ok).1
 
   -- the record of its own plan
-  rota-same : rota_of (plan_of r) ≡ r
-  rota-same i = record { next = r.next; line = line-tidy i }
+  rota_same : rota_of (plan_of r) ≡ r
+  rota_same i = record { next = r.next; line = line_tidy i }
 
   -- ---- ask
 
   module _ (b : ℕ) where
-    pub ask-block-outside : n ≤ b → record { place = NoPlace 6; rota = r } ≡ rota_asked n r b
+    pub ask_block_outside : n ≤ b → record { place = NoPlace 6; rota = r } ≡ rota_asked n r b
     unfolding rota_asked ask_number ask_refusal
-    ask-block-outside h = rw (ok, le-ltb b n h)
+    ask_block_outside h = rw (ok, le-ltb b n h)
 
     module _ (h : b < n) where
-      pub ask-again : (k : ℕ) → k ≡ place b (asks_of r.line) → (k ≡ 0 → ⊥) → record { place = Given k; rota = r } ≡ rota_asked n r b
+      pub ask_again : (k : ℕ) → k ≡ place b (asks_of r.line) → (k ≡ 0 → ⊥) → record { place = Given k; rota = r } ≡ rota_asked n r b
       unfolding rota_asked ask_number ask_refusal
-      ask-again zero e ne = absurd (ne refl)
-      ask-again (suc k) e ne =
-          rw (ok, lt-ltb b n h, ← e, eqb-suc-zero k) (ap (λ (q : Rota). record { place = Given (suc k); rota = q }) (sym rota-same))
+      ask_again zero e ne = absurd (ne refl)
+      ask_again (suc k) e ne =
+          rw (ok, lt-ltb b n h, ← e, eqb-suc-zero k) (ap (λ (q : Rota). record { place = Given (suc k); rota = q }) (sym rota_same))
 
-      pub ask-full : 0 ≡ place b (asks_of r.line) → true ≡ full places (asks_of r.line) → record { place = NoPlace 8; rota = r } ≡ rota_asked n r b
+      pub ask_full : 0 ≡ place b (asks_of r.line) → true ≡ full places (asks_of r.line) → record { place = NoPlace 8; rota = r } ≡ rota_asked n r b
       unfolding rota_asked ask_number ask_refusal
-      ask-full e w = rw (ok, lt-ltb b n h, ← e, ← w)
+      ask_full e w = rw (ok, lt-ltb b n h, ← e, ← w)
 
       -- the line after is q
-      pub ask-new : (q : Line) → 0 ≡ place b (asks_of r.line) → false ≡ full places (asks_of r.line) → q ≡ longer places r.line b
+      pub ask_new : (q : Line) → 0 ≡ place b (asks_of r.line) → false ≡ full places (asks_of r.line) → q ≡ longer places r.line b
           → record { place = Given q.waiting; rota = record { next = r.next; line = q } } ≡ rota_asked n r b
       unfolding rota_asked ask_number ask_refusal
-      ask-new q e w f =
+      ask_new q e w f =
           let l = asks_of r.line in
           let s : length (l ++ b ∷ []) ≡ suc (length l) = length-append l (b ∷ []) ∙ add-one (length l) in
           rw (ok, lt-ltb b n h, ← e, ← w, f) (ap (λ (k : ℕ). record { place = Given k; rota = record { next = r.next; line = longer places r.line b } }) s)
@@ -136,7 +136,7 @@ module _ (n : ℕ) (r : Rota) (long : length r.line.asks ≡ places) (ok : unbro
     turn_is d f g = rw (ok, ← e) (λ i. record { due = f i; rota = record { next = k; line = g i } })
 
     pub turn_one : r.line.waiting ≡ 0 → q ≡ r.line → record { due = One r.next; rota = record { next = k; line = q } } ≡ rota_turned n r
-    turn_one z f = turn_is (One r.next) (rw z) (f ∙ sym (rw z (rw z at line-tidy)))
+    turn_one z f = turn_is (One r.next) (rw z) (f ∙ sym (rw z (rw z at line_tidy)))
 
     pub turn_two : 0 < r.line.waiting → q ≡ shorter places r.line
         → record { due = Two r.next (get_or r.line.asks 0 0); rota = record { next = k; line = q } } ≡ rota_turned n r
@@ -157,14 +157,14 @@ module _ (n : ℕ) (r : Rota) (long : length r.line.asks ≡ places) (b : ℕ) w
       go : (t : Bool) → unbroken n r ≡ t → (v : ℕ) → let a = answer (5 when not t else v) in
           (r.next ≡ a.rota.next) × (after r.line.waiting (place_given a.place) ≡ a.rota.line.waiting)
       go true ok zero =
-          let w = ap (λ (line : Line). line.waiting) (line-tidy n r long ok) in
+          let w = ap (λ (line : Line). line.waiting) (line_tidy n r long ok) in
           (refl, after_given b r.line.waiting (asks_of r.line) w (place b (asks_of r.line)) refl)
       go true ok (suc v) = (refl, sym (after_had r.line.waiting 0 (omega arith)))
       go false ok v = (refl, sym (after_had r.line.waiting 0 (omega arith)))
 
-  pub ask-is : {p : Place} {w : ℕ} {l : List ℕ} → p ≡ (rota_asked n r b).place → w ≡ after r.line.waiting (place_given p)
+  pub ask_is : {p : Place} {w : ℕ} {l : List ℕ} → p ≡ (rota_asked n r b).place → w ≡ after r.line.waiting (place_given p)
       → l ≡ (rota_asked n r b).rota.line.asks
       → record { place = p; rota = record { next = r.next; line = record { waiting = w; asks = l } } } ≡ rota_asked n r b
-  ask-is e f g =
+  ask_is e f g =
       let w = f ∙ ap (λ (p : Place). after r.line.waiting (place_given p)) e ∙ kept.1 in
       λ i. record { place = e i; rota = record { next = kept.0 i; line = record { waiting = w i; asks = g i } } }

@@ -12,41 +12,41 @@ use Rattle.rota.specs.Line.{places}
 use Rattle.rota.specs.Plan.{Plan, start}
 use Rattle.rota.specs.Turning.{onward, due_of}
 use Rattle.rota.specs.Record.{fresh, rota_of, rota_turned}
-use Rattle.rota.specs.Steps.{ask, turn, other, tick, turns, rotaStep}
+use Rattle.rota.specs.Steps.{ask, turn, other, tick, turns, rota_step}
 use Rattle.rota.specs.Touches.{Touch, write, read, visit, flip, nothing, overwritten, meant, last_written}
 use Rattle.rota.specs.Memory.{Memory}
-use Rattle.rota.specs.Patrol.{StepOf, touched, visited, memoryStep, memoryRun, memoryAt, Spaced}
+use Rattle.rota.specs.Patrol.{StepOf, touched, visited, memory_step, memory_run, memory_at, Spaced}
 use Rattle.rota.specs.declared.Rota.{Rota}
 use Rattle.rota.specs.declared.Due.{Due}
 use Rattle.rota.specs.declared.Due.TheVariants.{Refused, One, Two}
-use Rattle.rota.proofs.Plans.{Sound, start-sound, ask-adds}
-use Rattle.rota.proofs.Runs.{rota-turned-is, turns-append, planStep, planRun, step-sound, step-runs}
+use Rattle.rota.proofs.Plans.{Sound, start_sound, ask_adds}
+use Rattle.rota.proofs.Runs.{rota_turned_is, turns_append, plan_step, plan_run, step_sound, step_runs}
 use Rattle.rota.proofs.Round.{Away, away, away_zero, away_step}
 
 module _ {n : ℕ} (M : Memory n) where
   -- ---- the memory stays good
 
-  visited-good : (d : Due) (m : M.State) → M.Good m → M.Good (visited M d m)
-  visited-good (Refused v) m g = g
-  visited-good (One a) m g = M.visit_good a m g
-  visited-good (Two a b) m g = M.visit_good b (M.visit a m) (M.visit_good a m g)
+  visited_good : (d : Due) (m : M.State) → M.Good m → M.Good (visited M d m)
+  visited_good (Refused v) m g = g
+  visited_good (One a) m g = M.visit_good a m g
+  visited_good (Two a b) m g = M.visit_good b (M.visit a m) (M.visit_good a m g)
 
-  touched-good : (x : Touch M.Data M.Flip) (m : M.State) → M.Good m → M.Good (touched M x m)
-  touched-good (write b d) m g = M.write_good b d m g
-  touched-good (read b) m g = g
-  touched-good (visit b) m g = M.visit_good b m g
-  touched-good (flip f) m g = M.flip_good f m g
-  touched-good nothing m g = g
+  touched_good : (x : Touch M.Data M.Flip) (m : M.State) → M.Good m → M.Good (touched M x m)
+  touched_good (write b d) m g = M.write_good b d m g
+  touched_good (read b) m g = g
+  touched_good (visit b) m g = M.visit_good b m g
+  touched_good (flip f) m g = M.flip_good f m g
+  touched_good nothing m g = g
 
-  step-good : (x : StepOf M) (r : Rota) (m : M.State) → M.Good m → M.Good (memoryStep M x r m)
-  step-good (ask b) r m g = g
-  step-good turn r m g = visited-good (rota_turned n r).due m g
-  step-good (other x) r m g = touched-good x m g
+  step_good : (x : StepOf M) (r : Rota) (m : M.State) → M.Good m → M.Good (memory_step M x r m)
+  step_good (ask b) r m g = g
+  step_good turn r m g = visited_good (rota_turned n r).due m g
+  step_good (other x) r m g = touched_good x m g
 
-  run-good : (l : List (StepOf M)) (r : Rota) (m : M.State) → M.Good m → M.Good (memoryRun M l r m)
-  unfolding memoryRun
-  run-good [] r m g = g
-  run-good (x ∷ l) r m g = run-good l (rotaStep n x r) (memoryStep M x r m) (step-good x r m g)
+  run_good : (l : List (StepOf M)) (r : Rota) (m : M.State) → M.Good m → M.Good (memory_run M l r m)
+  unfolding memory_run
+  run_good [] r m g = g
+  run_good (x ∷ l) r m g = run_good l (rota_step n x r) (memory_step M x r m) (step_good x r m g)
 
   -- ---- the lanes
 
@@ -66,9 +66,9 @@ module _ {n : ℕ} (M : Memory n) where
   all_near Q w m g h b l u e =
       subst (λ (c : ℕ). M.Off 1 m u (w c)) e (⊎_elim (λ o. M.off_more m u _ g o) (λ o. o.0) (h u (rw e l)))
 
-  held-visit : (Q R : M.Lane → Type 0) (w : ℕ → M.Data) (m : M.State) (b : ℕ)
+  held_visit : (Q R : M.Lane → Type 0) (w : ℕ → M.Data) (m : M.State) (b : ℕ)
       → ((u : M.Lane) → M.block u < n → (M.block u ≡ b → ⊥) → Q u → R u) → M.Good m → Held Q w m → Held R w (M.visit b m)
-  held-visit Q R w m b f g h u l =
+  held_visit Q R w m b f g h u l =
       by_cases (ℕ_discrete (M.block u) b)
       (λ e. let k : b < n = omega arith in inl (rw e (M.visit_here b m (w b) g k (all_near Q w m g h b k) u e)))
       (λ ne. kept_map (M.visit_away b m u _ g ne) (f u l ne) (h u l))
@@ -97,7 +97,7 @@ module _ {n : ℕ} (M : Memory n) where
         wait = wait;
         split = ap (λ (l : List (StepOf M)). l ++ x ∷ []) h.split ∙ append_assoc h.pre (other (flip h.by) ∷ h.mid) (x ∷ []);
         hit = h.hit;
-        soon = omega (arith, h.soon, turns-append h.mid (x ∷ []));
+        soon = omega (arith, h.soon, turns_append h.mid (x ∷ []));
         off = a;
       }
 
@@ -114,9 +114,9 @@ module _ {n : ℕ} (M : Memory n) where
         (λ e. inl (rw (eq-eqb b (M.block u) (sym e)) (M.write_here b d m u good (omega arith) e)))
         (λ ne. rw (ne_eqb b (M.block u) (λ e. ne (sym e))) (kept_map (M.write_away b d m u _ good ne) (λ q. q) (quiet (other (write b d)) refl u l)))
 
-    after-flip : (f : M.Flip) → Spaced M (done ++ other (flip f) ∷ []) → Held (Hurt (done ++ other (flip f) ∷ []) p.next) w (M.flip f m)
+    after_flip : (f : M.Flip) → Spaced M (done ++ other (flip f) ∷ []) → Held (Hurt (done ++ other (flip f) ∷ []) p.next) w (M.flip f m)
     unfolding turns
-    after-flip f sp u l =
+    after_flip f sp u l =
         by_cases (M.lane? (M.lane f) u)
         (λ e.
         ⊎_elim
@@ -142,49 +142,49 @@ module _ {n : ℕ} (M : Memory n) where
     Left = Hurt (done ++ turn ∷ []) (onward n p.next)
 
     after_first : Held Left w (M.visit p.next m)
-    after_first = held-visit (Hurt done p.next) Left w m p.next past good h
+    after_first = held_visit (Hurt done p.next) Left w m p.next past good h
 
     after_turn : (asks : List ℕ) → Held Left w (visited M (due_of p.next asks) m)
     after_turn [] = after_first
-    after_turn (b ∷ asks) = held-visit Left Left w (M.visit p.next m) b (λ u l ne q. q) (M.visit_good p.next m good) after_first
+    after_turn (b ∷ asks) = held_visit Left Left w (M.visit p.next m) b (λ u l ne q. q) (M.visit_good p.next m good) after_first
 
-    after-touch : (x : Touch M.Data M.Flip) → Spaced M (done ++ other x ∷ [])
+    after_touch : (x : Touch M.Data M.Flip) → Spaced M (done ++ other x ∷ [])
         → Held (Hurt (done ++ other x ∷ []) p.next) (λ c. overwritten c (w c) x) (touched M x m)
-    after-touch (write b d) sp = after_write b d
-    after-touch (read b) sp = quiet (other (read b)) refl
-    after-touch (visit b) sp =
-        held-visit (Hurt (done ++ other (visit b) ∷ []) p.next) (Hurt (done ++ other (visit b) ∷ []) p.next) w m b (λ u l ne q. q) good
+    after_touch (write b d) sp = after_write b d
+    after_touch (read b) sp = quiet (other (read b)) refl
+    after_touch (visit b) sp =
+        held_visit (Hurt (done ++ other (visit b) ∷ []) p.next) (Hurt (done ++ other (visit b) ∷ []) p.next) w m b (λ u l ne q. q) good
         (quiet (other (visit b)) refl)
-    after-touch (flip f) sp = after-flip f sp
-    after-touch nothing sp = quiet (other nothing) refl
+    after_touch (flip f) sp = after_flip f sp
+    after_touch nothing sp = quiet (other nothing) refl
 
-    after-step : (x : StepOf M) → Spaced M (done ++ x ∷ [])
-        → Held (Hurt (done ++ x ∷ []) (planStep n x p).next) (λ c. meant c (w c) x) (memoryStep M x (rota_of p) m)
-    after-step (ask b) sp = rw (ask-adds places n p b).2 (quiet (ask b) refl)
-    after-step turn sp = rw (rota-turned-is n p s) (after_turn p.asks)
-    after-step (other x) sp = after-touch x sp
+    after_step : (x : StepOf M) → Spaced M (done ++ x ∷ [])
+        → Held (Hurt (done ++ x ∷ []) (plan_step n x p).next) (λ c. meant c (w c) x) (memory_step M x (rota_of p) m)
+    after_step (ask b) sp = rw (ask_adds places n p b).2 (quiet (ask b) refl)
+    after_step turn sp = rw (rota_turned_is n p s) (after_turn p.asks)
+    after_step (other x) sp = after_touch x sp
 
   -- ---- a list of steps
 
-  spaced-front : (l k : List (StepOf M)) → Spaced M (l ++ k) → Spaced M l
-  spaced-front l k sp pre mid post f g e =
+  spaced_front : (l k : List (StepOf M)) → Spaced M (l ++ k) → Spaced M l
+  spaced_front l k sp pre mid post f g e =
       sp pre mid (post ++ k) f g (ap (λ (x : List (StepOf M)). x ++ k) e ∙ append_assoc (pre ++ other (flip f) ∷ mid) (other (flip g) ∷ post) k)
 
-  held-run : (rest done : List (StepOf M)) (p : Plan) (w : ℕ → M.Data) (m : M.State) → Sound places n p → M.Good m → Held (Hurt done p.next) w m
-      → Spaced M (done ++ rest) → Held (Hurt (done ++ rest) (planRun n rest p).next) (λ c. last_written c (w c) rest) (memoryRun M rest (rota_of p) m)
-  unfolding planRun memoryRun last_written
-  held-run [] done p w m s g h sp = rw append-nil h
-  held-run (x ∷ rest) done p w m s g h sp =
+  held_run : (rest done : List (StepOf M)) (p : Plan) (w : ℕ → M.Data) (m : M.State) → Sound places n p → M.Good m → Held (Hurt done p.next) w m
+      → Spaced M (done ++ rest) → Held (Hurt (done ++ rest) (plan_run n rest p).next) (λ c. last_written c (w c) rest) (memory_run M rest (rota_of p) m)
+  unfolding plan_run memory_run last_written
+  held_run [] done p w m s g h sp = rw append-nil h
+  held_run (x ∷ rest) done p w m s g h sp =
       let e = append_assoc done (x ∷ []) rest in
       let sq : Spaced M (done ++ x ∷ [] ++ rest) = rw e sp in
-      rw (← e, step-runs n x p s)
-      (held-run rest (done ++ x ∷ []) (planStep n x p) (λ c. meant c (w c) x) (memoryStep M x (rota_of p) m) (step-sound n x p s) (step-good x (rota_of p) m g)
-      (after-step done p w m s g h x (spaced-front (done ++ x ∷ []) rest sq))
+      rw (← e, step_runs n x p s)
+      (held_run rest (done ++ x ∷ []) (plan_step n x p) (λ c. meant c (w c) x) (memory_step M x (rota_of p) m) (step_sound n x p s) (step_good x (rota_of p) m g)
+      (after_step done p w m s g h x (spaced_front (done ++ x ∷ []) rest sq))
       sq)
 
-  pub reads : 1 ≤ n → (l : List (StepOf M)) → Spaced M l → (b : ℕ) → b < n → M.read b (memoryAt M l) ≡ M.gives (last_written b M.zeros l)
+  pub reads : 1 ≤ n → (l : List (StepOf M)) → Spaced M l → (b : ℕ) → b < n → M.read b (memory_at M l) ≡ M.gives (last_written b M.zeros l)
   reads k l sp b h =
-      let held = held-run l [] start (λ c. M.zeros) M.fresh (start-sound places n k) M.fresh_good (λ u i. inl (M.fresh_zeros u i)) sp in
-      let good = run-good l fresh M.fresh M.fresh_good in
-      M.read_here b (memoryAt M l) (last_written b M.zeros l) good h
-      (all_near (Hurt ([] ++ l) (planRun n l start).next) (λ c. last_written c M.zeros l) (memoryAt M l) good held b h)
+      let held = held_run l [] start (λ c. M.zeros) M.fresh (start_sound places n k) M.fresh_good (λ u i. inl (M.fresh_zeros u i)) sp in
+      let good = run_good l fresh M.fresh M.fresh_good in
+      M.read_here b (memory_at M l) (last_written b M.zeros l) good h
+      (all_near (Hurt ([] ++ l) (plan_run n l start).next) (λ c. last_written c M.zeros l) (memory_at M l) good held b h)

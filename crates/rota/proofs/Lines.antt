@@ -26,9 +26,9 @@ module _ (capacity : ℕ) where
     pub once : none_twice (asks_of line) ≡ true
     pub spare : zeros (unused_of line) ≡ true
 
-  pub sound-fit : (n : ℕ) (line : Line) → sound capacity n line ≡ true → Fit n line
+  pub sound_fit : (n : ℕ) (line : Line) → sound capacity n line ≡ true → Fit n line
   unfolding sound
-  sound-fit n line e =
+  sound_fit n line e =
       let l = asks_of line in
       let z = zeros (unused_of line) in
       let a = both (leb line.waiting capacity) ((below n l && none_twice l) && z) e in
@@ -36,33 +36,33 @@ module _ (capacity : ℕ) where
       let c = both (below n l) (none_twice l) b.0 in
       record { few = leb-true line.waiting capacity a.0; low = c.0; once = c.1; spare = b.1 }
 
-  pub sound-many : (n : ℕ) (line : Line) → capacity < line.waiting → false ≡ sound capacity n line
+  pub sound_many : (n : ℕ) (line : Line) → capacity < line.waiting → false ≡ sound capacity n line
   unfolding sound
-  sound-many n line h = rw (lt-leb line.waiting capacity h)
+  sound_many n line h = rw (lt-leb line.waiting capacity h)
 
-  pub sound-is : (n : ℕ) (line : Line) → line.waiting ≤ capacity → (t u : Bool)
+  pub sound_is : (n : ℕ) (line : Line) → line.waiting ≤ capacity → (t u : Bool)
       → t ≡ (below n (asks_of line) && none_twice (asks_of line)) → u ≡ zeros (unused_of line) → t && u ≡ sound capacity n line
   unfolding sound
-  sound-is n line h t u e f = rw (le-leb line.waiting capacity h, e, f)
+  sound_is n line h t u e f = rw (le-leb line.waiting capacity h, e, f)
 
   -- ---- a list, and the line that says it
 
-  pub said-long : (l : List ℕ) → length l ≤ capacity → length (line_of capacity l).asks ≡ capacity
-  said-long l h = length-append l (replicate (capacity - length l) 0) ∙ omega (arith, length-replicate {A = ℕ} (capacity - length l) 0)
+  pub said_long : (l : List ℕ) → length l ≤ capacity → length (line_of capacity l).asks ≡ capacity
+  said_long l h = length-append l (replicate (capacity - length l) 0) ∙ omega (arith, length-replicate {A = ℕ} (capacity - length l) 0)
 
-  pub list-said : (l : List ℕ) → asks_of (line_of capacity l) ≡ l
-  list-said l = take-append_seam l (replicate (capacity - length l) 0)
+  pub list_said : (l : List ℕ) → asks_of (line_of capacity l) ≡ l
+  list_said l = take-append_seam l (replicate (capacity - length l) 0)
 
-  pub said-sound : (n : ℕ) (l : List ℕ) → length l ≤ capacity → below n l ≡ true → none_twice l ≡ true → sound capacity n (line_of capacity l) ≡ true
+  pub said_sound : (n : ℕ) (l : List ℕ) → length l ≤ capacity → below n l ≡ true → none_twice l ≡ true → sound capacity n (line_of capacity l) ≡ true
   unfolding sound
-  said-sound n l few low once =
-      rw (le-leb (length l) capacity few, list-said l, drop-append_seam l (replicate (capacity - length l) 0), low, once)
+  said_sound n l few low once =
+      rw (le-leb (length l) capacity few, list_said l, drop-append_seam l (replicate (capacity - length l) 0), low, once)
       (replicate_zeros (capacity - length l))
 
   -- one block more
-  said-longer : (l : List ℕ) (b : ℕ) → length l < capacity
+  said_longer : (l : List ℕ) (b : ℕ) → length l < capacity
       → record { waiting = length l + 1; asks = set (line_of capacity l).asks (length l) b } ≡ line_of capacity (l ++ b ∷ [])
-  said-longer l b h =
+  said_longer l b h =
       let n = length-append l (b ∷ []) in
       let e : capacity - length l ≡ suc (capacity - length (l ++ b ∷ [])) = omega arith in
       line_same (sym n)
@@ -71,10 +71,10 @@ module _ (capacity : ℕ) where
       ∙ sym (append_snoc l b (replicate (capacity - length (l ++ b ∷ [])) 0)))
 
   -- one block less
-  said-shorter : (l : List ℕ) → 0 < length l → length l ≤ capacity
+  said_shorter : (l : List ℕ) → 0 < length l → length l ≤ capacity
       → record { waiting = length l - 1; asks = drop 1 (line_of capacity l).asks ++ 0 ∷ [] } ≡ line_of capacity (drop 1 l)
-  said-shorter [] h k = absurd (omega arith)
-  said-shorter (a ∷ l) h k =
+  said_shorter [] h k = absurd (omega arith)
+  said_shorter (a ∷ l) h k =
       let e : (capacity - suc (length l)) + 1 ≡ capacity - length l = omega arith in
       line_same (omega arith)
       (append_assoc l (replicate (capacity - suc (length l)) 0) (0 ∷ [])
@@ -91,9 +91,9 @@ module _ (capacity : ℕ) where
         go false e =
             sym (lt-leb capacity (length (asks_of line)) (omega (arith, leb-false capacity line.waiting e, length-take line.waiting line.asks)))
 
-    pub sound-tidy : (n : ℕ) → sound capacity n line ≡ true → Tidy capacity line
-    sound-tidy n e =
-        let fit = sound-fit n line e in
+    pub sound_tidy : (n : ℕ) → sound capacity n line ≡ true → Tidy capacity line
+    sound_tidy n e =
+        let fit = sound_fit n line e in
         let w = length-take-le line.waiting line.asks (omega (arith, fit.few)) in
         let d = length-drop line.waiting line.asks in
         let r : length (unused_of line) ≡ capacity - length (asks_of line) = omega arith in
@@ -102,16 +102,16 @@ module _ (capacity : ℕ) where
         ∙ take-append-drop line.waiting line.asks)
 
     module _ (tidy : Tidy capacity line) where
-      waiting-is : length (asks_of line) ≡ line.waiting
-      waiting-is = ap (λ (x : Line). x.waiting) tidy
+      waiting_is : length (asks_of line) ≡ line.waiting
+      waiting_is = ap (λ (x : Line). x.waiting) tidy
 
-      pub longer-is : (b : ℕ) → line.waiting < capacity
+      pub longer_is : (b : ℕ) → line.waiting < capacity
           → record { waiting = line.waiting + 1; asks = set line.asks line.waiting b } ≡ longer capacity line b
-      longer-is b h =
+      longer_is b h =
           ap (λ (x : Line). record { waiting = x.waiting + 1; asks = set x.asks x.waiting b }) (sym tidy)
-          ∙ said-longer (asks_of line) b (omega (arith, waiting-is))
+          ∙ said_longer (asks_of line) b (omega (arith, waiting_is))
 
-      pub shorter-is : 0 < line.waiting → record { waiting = line.waiting - 1; asks = drop 1 line.asks ++ 0 ∷ [] } ≡ shorter capacity line
-      shorter-is h =
+      pub shorter_is : 0 < line.waiting → record { waiting = line.waiting - 1; asks = drop 1 line.asks ++ 0 ∷ [] } ≡ shorter capacity line
+      shorter_is h =
           ap (λ (x : Line). record { waiting = x.waiting - 1; asks = drop 1 x.asks ++ 0 ∷ [] }) (sym tidy)
-          ∙ said-shorter (asks_of line) (omega (arith, waiting-is)) (omega (arith, long, length-take line.waiting line.asks))
+          ∙ said_shorter (asks_of line) (omega (arith, waiting_is)) (omega (arith, long, length-take line.waiting line.asks))

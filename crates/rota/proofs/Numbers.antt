@@ -53,33 +53,33 @@ module _ (n : ℕ) (r : Rota) where
     answer_by number =
         if_zero number (record { place = Given (ask_place (plan_of r) b); rota = rota_of (joined (plan_of r) b) }) (record { place = NoPlace number; rota = r })
 
-    pub ask-number : place_number (rota_asked n r b).place ≡ ask_number n r b
+    pub ask_number_lem : place_number (rota_asked n r b).place ≡ ask_number n r b
     unfolding rota_asked
-    ask-number = go (ask_number n r b)
+    ask_number_lem = go (ask_number n r b)
       where
         go : (v : ℕ) → place_number (answer_by v).place ≡ v
         go zero = refl
         go (suc v) = refl
 
-    pub ask-refused : (v : ℕ) → ask_number n r b ≡ suc v → rota_asked n r b ≡ record { place = NoPlace (suc v); rota = r }
+    pub ask_refused_lem : (v : ℕ) → ask_number n r b ≡ suc v → rota_asked n r b ≡ record { place = NoPlace (suc v); rota = r }
     unfolding rota_asked
-    ask-refused v e = ap answer_by e
+    ask_refused_lem v e = ap answer_by e
 
-    pub ask-numbered : (rota_asked n r b).place ≡ NoPlace 0 → ⊥
+    pub ask_numbered : (rota_asked n r b).place ≡ NoPlace 0 → ⊥
     unfolding rota_asked
-    ask-numbered = go (ask_number n r b)
+    ask_numbered = go (ask_number n r b)
       where
         go : (v : ℕ) → (answer_by v).place ≡ NoPlace 0 → ⊥
         go zero e = let z : ◌≡◌ {A = ℕ} 0 1 = cc in omega arith
         go (suc v) e = let z : suc v ≡ 0 = ap place_number e in omega arith
 
-    asks-asked : RotaAsks n r b (rota_asked n r b)
+    asks_asked : RotaAsks n r b (rota_asked n r b)
     unfolding rota_asked
-    asks-asked =
+    asks_asked =
         record {
-          number = ask-number;
+          number = ask_number_lem;
           place = place (ask_number n r b);
-          numbered = ask-numbered;
+          numbered = ask_numbered;
           back = back (ask_number n r b);
         }
       where
@@ -92,88 +92,88 @@ module _ (n : ℕ) (r : Rota) where
         back (suc v) = refl
 
     -- one answer keeps the promise: the rota's own
-    pub one-asked : {answer other : RotaAsked} → RotaAsks n r b answer → RotaAsks n r b other → answer ≡ other
-    one-asked {answer} {other} p q =
+    pub one_asked : {answer other : RotaAsked} → RotaAsks n r b answer → RotaAsks n r b other → answer ≡ other
+    one_asked {answer} {other} p q =
         let place = place_told answer.place other.place p.numbered q.numbered (p.number ∙ sym q.number) (p.place ∙ sym q.place) in
         let rota = p.back ∙ sym q.back in
         λ i. record { place = place i; rota = rota i }
 
     pub asks : {answer : RotaAsked} → answer ≡ rota_asked n r b → RotaAsks n r b answer
-    asks e = rw e asks-asked
+    asks e = rw e asks_asked
 
-    pub asks-is : {answer : RotaAsked} → RotaAsks n r b answer → answer ≡ rota_asked n r b
-    asks-is p = one-asked p asks-asked
+    pub asks_is : {answer : RotaAsked} → RotaAsks n r b answer → answer ≡ rota_asked n r b
+    asks_is p = one_asked p asks_asked
 
   -- ---- turn
 
   -- the answer, by the number of the refusal and the waiting list
-  abbrev pub turnBy : ℕ → List ℕ → RotaTurned
-  turnBy number l =
+  abbrev pub turn_by : ℕ → List ℕ → RotaTurned
+  turn_by number l =
       if_zero number (record { due = due_of r.next l; rota = rota_of (moved_on n (plan_of r)) }) (record { due = NoneDue number; rota = r })
 
-  pub turn-number : due_number (rota_turned n r).due ≡ turn_number n r
+  pub turn_number_lem : due_number (rota_turned n r).due ≡ turn_number n r
   unfolding rota_turned
-  turn-number = go (turn_number n r) (asks_of r.line)
+  turn_number_lem = go (turn_number n r) (asks_of r.line)
     where
-      go : (v : ℕ) (l : List ℕ) → due_number (turnBy v l).due ≡ v
+      go : (v : ℕ) (l : List ℕ) → due_number (turn_by v l).due ≡ v
       go zero [] = refl
       go zero (a ∷ l) = refl
       go (suc v) l = refl
 
-  pub turn-refused : (v : ℕ) → turn_number n r ≡ suc v → rota_turned n r ≡ record { due = NoneDue (suc v); rota = r }
+  pub turn_refused_lem : (v : ℕ) → turn_number n r ≡ suc v → rota_turned n r ≡ record { due = NoneDue (suc v); rota = r }
   unfolding rota_turned
-  turn-refused v e = ap (λ (w : ℕ). turnBy w (asks_of r.line)) e
+  turn_refused_lem v e = ap (λ (w : ℕ). turn_by w (asks_of r.line)) e
 
-  pub turn-numbered : (rota_turned n r).due ≡ NoneDue 0 → ⊥
+  pub turn_numbered : (rota_turned n r).due ≡ NoneDue 0 → ⊥
   unfolding rota_turned
-  turn-numbered = go (turn_number n r) (asks_of r.line)
+  turn_numbered = go (turn_number n r) (asks_of r.line)
     where
-      go : (v : ℕ) (l : List ℕ) → (turnBy v l).due ≡ NoneDue 0 → ⊥
+      go : (v : ℕ) (l : List ℕ) → (turn_by v l).due ≡ NoneDue 0 → ⊥
       go zero [] e = let z : ◌≡◌ {A = ℕ} 0 1 = cc in omega arith
       go zero (a ∷ l) e = let z : ◌≡◌ {A = ℕ} 0 1 = cc in omega arith
       go (suc v) l e = let z : suc v ≡ 0 = ap due_number e in omega arith
 
-  turns-turned : RotaTurns n r (rota_turned n r)
+  turns_turned : RotaTurns n r (rota_turned n r)
   unfolding rota_turned
-  turns-turned =
+  turns_turned =
       record {
-        number = turn-number;
+        number = turn_number_lem;
         first = first (turn_number n r) (asks_of r.line);
         second = second (turn_number n r) (asks_of r.line);
         asked = asked (turn_number n r) (asks_of r.line);
-        numbered = turn-numbered;
+        numbered = turn_numbered;
         back = back (turn_number n r);
       }
     where
-      first : (v : ℕ) (l : List ℕ) → first_block (turnBy v l).due ≡ if_zero v r.next 0
+      first : (v : ℕ) (l : List ℕ) → first_block (turn_by v l).due ≡ if_zero v r.next 0
       first zero [] = refl
       first zero (a ∷ l) = refl
       first (suc v) l = refl
 
-      second : (v : ℕ) (l : List ℕ) → second_block (turnBy v l).due ≡ if_zero v (get_or l 0 0) 0
+      second : (v : ℕ) (l : List ℕ) → second_block (turn_by v l).due ≡ if_zero v (get_or l 0 0) 0
       second zero [] = refl
       second zero (a ∷ l) = refl
       second (suc v) l = refl
 
-      asked : (v : ℕ) (l : List ℕ) → served (turnBy v l).due ≡ if_zero v (some? l) false
+      asked : (v : ℕ) (l : List ℕ) → served (turn_by v l).due ≡ if_zero v (some? l) false
       asked zero [] = refl
       asked zero (a ∷ l) = refl
       asked (suc v) l = refl
 
-      back : (v : ℕ) → (turnBy v (asks_of r.line)).rota ≡ if_zero v (rota_of (moved_on n (plan_of r))) r
+      back : (v : ℕ) → (turn_by v (asks_of r.line)).rota ≡ if_zero v (rota_of (moved_on n (plan_of r))) r
       back zero = refl
       back (suc v) = refl
 
   -- one answer keeps the promise: the rota's own
-  pub one-turned : {answer other : RotaTurned} → RotaTurns n r answer → RotaTurns n r other → answer ≡ other
-  one-turned {answer} {other} p q =
+  pub one_turned : {answer other : RotaTurned} → RotaTurns n r answer → RotaTurns n r other → answer ≡ other
+  one_turned {answer} {other} p q =
       let due = due_told answer.due other.due p.numbered q.numbered (p.number ∙ sym q.number) (p.asked ∙ sym q.asked)
       (p.first ∙ sym q.first) (p.second ∙ sym q.second) in
       let rota = p.back ∙ sym q.back in
       λ i. record { due = due i; rota = rota i }
 
   pub turns : {answer : RotaTurned} → answer ≡ rota_turned n r → RotaTurns n r answer
-  turns e = rw e turns-turned
+  turns e = rw e turns_turned
 
-  pub turns-is : {answer : RotaTurned} → RotaTurns n r answer → answer ≡ rota_turned n r
-  turns-is p = one-turned p turns-turned
+  pub turns_is : {answer : RotaTurned} → RotaTurns n r answer → answer ≡ rota_turned n r
+  turns_is p = one_turned p turns_turned

@@ -112,8 +112,8 @@ module _ (capacity : ℕ) (l : List ℕ) (long : length l ≡ capacity) where
       ∙ ap (λ (k : ℕ). get_or l k 0) o
       ∙ sym (get_or-drop 1 l i 0)
 
-  pub move-next : (i : ℕ) → i < capacity - 1 → set (moved_first l i) i (get_or (moved_first l i) (i + 1) 0) ≡ moved_first l (i + 1)
-  move-next i h =
+  pub move_next : (i : ℕ) → i < capacity - 1 → set (moved_first l i) i (get_or (moved_first l i) (i + 1) 0) ≡ moved_first l (i + 1)
+  move_next i h =
       let d = length-drop 1 l in
       let z : 0 + i ≡ i = omega arith in
       ap₂ (λ (k v : ℕ). set (moved_first l i) k v) (sym z) (ahead i h)
@@ -121,8 +121,8 @@ module _ (capacity : ℕ) (l : List ℕ) (long : length l ≡ capacity) where
       ∙ ap (moved_first l) (sym (add-one i))
 
   -- the last place is cleared
-  pub move-end : (i : ℕ) → 0 < capacity → i ≡ capacity - 1 → set (moved_first l i) i 0 ≡ drop 1 l ++ (0 ∷ [])
-  move-end i some h =
+  pub move_end : (i : ℕ) → 0 < capacity → i ≡ capacity - 1 → set (moved_first l i) i 0 ≡ drop 1 l ++ (0 ∷ [])
+  move_end i some h =
       let d = length-drop 1 l in
       let z : 0 + i ≡ i = omega arith in
       let p = take_all i (drop 1 l) (omega arith) in

@@ -36,20 +36,20 @@ module _ (capacity : ℕ) where
     pub low : below n p.asks ≡ true
     pub once : none_twice p.asks ≡ true
 
-  pub start-sound : (n : ℕ) → 1 ≤ n → Sound n start
+  pub start_sound : (n : ℕ) → 1 ≤ n → Sound n start
   unfolding below none_twice
-  start-sound n h = record { inside = h; few = omega arith; low = refl; once = refl }
+  start_sound n h = record { inside = h; few = omega arith; low = refl; once = refl }
 
   -- ---- ask
 
   -- the plan after an ask, refused or not
-  unfoldable pub askAfter : ℕ → Plan → ℕ → Plan
-  askAfter n plan block = if_zero (ask_refusal capacity n plan block) (joined plan block) plan
+  unfoldable pub ask_after : ℕ → Plan → ℕ → Plan
+  ask_after n plan block = if_zero (ask_refusal capacity n plan block) (joined plan block) plan
 
   module _ (n : ℕ) (p : Plan) (b : ℕ) where
-    pub ask-sound : Sound n p → Sound n (askAfter n p b)
-    unfolding askAfter ask_refusal
-    ask-sound s = go (ltb b n) refl (place b p.asks) refl (full capacity p.asks) refl
+    pub ask_sound : Sound n p → Sound n (ask_after n p b)
+    unfolding ask_after ask_refusal
+    ask_sound s = go (ltb b n) refl (place b p.asks) refl (full capacity p.asks) refl
       where
         go : (t : Bool) → ltb b n ≡ t → (k : ℕ) → place b p.asks ≡ k → (u : Bool) → full capacity p.asks ≡ u
             → Sound n (if_zero (6 when not t else 8 when eqb k 0 && u else 0) (record { next = p.next; asks = lengthened k b p.asks }) p)
@@ -65,13 +65,13 @@ module _ (capacity : ℕ) where
         go true e (suc k) f u g = rw (eqb-suc-zero k) (record { inside = s.inside; few = s.few; low = s.low; once = s.once })
 
     -- an ask adds at the end, if anywhere
-    pub ask-few : Sound n p → ask_refusal capacity n p b ≡ 0 → length (joined p b).asks ≤ capacity
-    unfolding askAfter
-    ask-few s z = (rw z at ask-sound s).few
+    pub ask_few : Sound n p → ask_refusal capacity n p b ≡ 0 → length (joined p b).asks ≤ capacity
+    unfolding ask_after
+    ask_few s z = (rw z at ask_sound s).few
 
-    pub ask-adds : (l : List ℕ) × ((askAfter n p b).asks ≡ p.asks ++ l) × ((askAfter n p b).next ≡ p.next)
-    unfolding askAfter
-    ask-adds = go (ask_refusal capacity n p b) (place b p.asks)
+    pub ask_adds : (l : List ℕ) × ((ask_after n p b).asks ≡ p.asks ++ l) × ((ask_after n p b).next ≡ p.next)
+    unfolding ask_after
+    ask_adds = go (ask_refusal capacity n p b) (place b p.asks)
       where
         go : (v k : ℕ) → let q = if_zero v (record { next = p.next; asks = lengthened k b p.asks }) p in
             (l : List ℕ) × (q.asks ≡ p.asks ++ l) × (q.next ≡ p.next)
@@ -80,18 +80,18 @@ module _ (capacity : ℕ) where
         go (suc v) k = ([], sym (append-nil p.asks), refl)
 
     -- an ask that is accepted stands at the place that it is given
-    pub ask-stands : (k : ℕ) → ask_refusal capacity n p b ≡ 0 → ask_place p b ≡ suc k → Stands b k (askAfter n p b).asks
-    unfolding askAfter
-    ask-stands k z e = rw z (go (place b p.asks) refl e)
+    pub ask_stands : (k : ℕ) → ask_refusal capacity n p b ≡ 0 → ask_place p b ≡ suc k → Stands b k (ask_after n p b).asks
+    unfolding ask_after
+    ask_stands k z e = rw z (go (place b p.asks) refl e)
       where
         go : (j : ℕ) → place b p.asks ≡ j → given j p.asks ≡ suc k → Stands b k (lengthened j b p.asks)
         go zero f e = let z : length p.asks ≡ k = omega arith in rw (← z) (stands_last b p.asks)
         go (suc j) f e = stands_at b p.asks k (f ∙ e)
 
     -- and that place is one of the line
-    pub ask-place : Sound n p → ask_refusal capacity n p b ≡ 0 → (1 ≤ ask_place p b) × (ask_place p b ≤ capacity)
+    pub ask_place_lem : Sound n p → ask_refusal capacity n p b ≡ 0 → (1 ≤ ask_place p b) × (ask_place p b ≤ capacity)
     unfolding ask_refusal
-    ask-place s z = go (ltb b n) (place b p.asks) refl (full capacity p.asks) refl z
+    ask_place_lem s z = go (ltb b n) (place b p.asks) refl (full capacity p.asks) refl z
       where
         go : (t : Bool) (k : ℕ) → place b p.asks ≡ k → (u : Bool) → full capacity p.asks ≡ u
             → (6 when not t else 8 when eqb k 0 && u else 0) ≡ 0 → (1 ≤ given k p.asks) × (given k p.asks ≤ capacity)
@@ -102,11 +102,11 @@ module _ (capacity : ℕ) where
 
   -- ---- turn
 
-  tail-sound : (n k : ℕ) (l : List ℕ) → k < n → length l ≤ capacity → below n l ≡ true → none_twice l ≡ true → Sound n (record { next = k; asks = drop 1 l })
+  tail_sound : (n k : ℕ) (l : List ℕ) → k < n → length l ≤ capacity → below n l ≡ true → none_twice l ≡ true → Sound n (record { next = k; asks = drop 1 l })
   unfolding below none_twice
-  tail-sound n k [] h a b c = record { inside = h; few = a; low = b; once = c }
-  tail-sound n k (x ∷ l) h a b c =
+  tail_sound n k [] h a b c = record { inside = h; few = a; low = b; once = c }
+  tail_sound n k (x ∷ l) h a b c =
       record { inside = h; few = omega arith; low = (both (ltb x n) (below n l) b).1; once = (both (eqb (place x l) 0) (none_twice l) c).1 }
 
-  pub turn-sound : (n : ℕ) (p : Plan) → Sound n p → Sound n (moved_on n p)
-  turn-sound n p s = tail-sound n (onward n p.next) p.asks (onward_lt n p.next s.inside) s.few s.low s.once
+  pub turn_sound : (n : ℕ) (p : Plan) → Sound n p → Sound n (moved_on n p)
+  turn_sound n p s = tail_sound n (onward n p.next) p.asks (onward_lt n p.next s.inside) s.few s.low s.once

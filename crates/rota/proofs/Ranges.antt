@@ -21,9 +21,9 @@ use Rattle.rota.specs.declared.Place.TheVariants.{Given, Refused as NoPlace}
 use Rattle.rota.specs.declared.RotaAsked.{RotaAsked}
 use Rattle.rota.specs.declared.Due.TheVariants.{Refused as NoneDue}
 use Rattle.rota.specs.declared.RotaTurned.{RotaTurned}
-use Rattle.rota.proofs.Lines.{said-long}
-use Rattle.rota.proofs.Plans.{ask-place, ask-few, turn-sound}
-use Rattle.rota.proofs.Entries.{plan-fit}
+use Rattle.rota.proofs.Lines.{said_long}
+use Rattle.rota.proofs.Plans.{ask_place_lem, ask_few, turn_sound}
+use Rattle.rota.proofs.Entries.{plan_fit}
 
 dues_inside : (n next : ℕ) (asks : List ℕ) → next < n → below n asks ≡ true → (first_block (due_of next asks) < n) × (second_block (due_of next asks) < n)
 unfolding below
@@ -31,9 +31,9 @@ dues_inside n next [] h e = (h, omega arith)
 dues_inside n next (b ∷ asks) h e = (h, ltb-true b n (both (ltb b n) (below n asks) e).0)
 
 module _ (n : ℕ) (r : Rota) where
-  pub ask-placed : (b k : ℕ) → (rota_asked n r b).place ≡ Given k → (1 ≤ k) × (k ≤ places)
+  pub ask_placed : (b k : ℕ) → (rota_asked n r b).place ≡ Given k → (1 ≤ k) × (k ≤ places)
   unfolding rota_asked ask_number
-  ask-placed b k e = go (unbroken n r) refl (ask_refusal places n (plan_of r) b) refl e
+  ask_placed b k e = go (unbroken n r) refl (ask_refusal places n (plan_of r) b) refl e
     where
       go : (t : Bool) → unbroken n r ≡ t → (v : ℕ) → ask_refusal places n (plan_of r) b ≡ v
           → (if_zero {A = RotaAsked} (5 when not t else v) (record { place = Given (ask_place (plan_of r) b); rota = rota_of (joined (plan_of r) b) })
@@ -41,7 +41,7 @@ module _ (n : ℕ) (r : Rota) where
           → (1 ≤ k) × (k ≤ places)
       go true ok zero z e =
           let q : ask_place (plan_of r) b ≡ k = cc in
-          rw (← q) (ask-place places n (plan_of r) b (plan-fit n r ok) z)
+          rw (← q) (ask_place_lem places n (plan_of r) b (plan_fit n r ok) z)
       go true ok (suc v) z e = let w : ◌≡◌ {A = ℕ} 0 1 = cc in absurd (omega arith)
       go false ok v z e = let w : ◌≡◌ {A = ℕ} 0 1 = cc in absurd (omega arith)
 
@@ -51,12 +51,12 @@ module _ (n : ℕ) (r : Rota) where
   turn_inside e = go (unbroken n r) refl e
     where
       go : (t : Bool) → unbroken n r ≡ t → 5 when not t else 0 ≡ 0 → (r.next < n) × (below n (asks_of r.line) ≡ true)
-      go true ok e = let s = plan-fit n r ok in (s.inside, s.low)
+      go true ok e = let s = plan_fit n r ok in (s.inside, s.low)
       go false ok e = absurd (omega arith)
 
-  pub due-inside : due_number (rota_turned n r).due ≡ 0 → (first_block (rota_turned n r).due < n) × (second_block (rota_turned n r).due < n)
+  pub due_inside : due_number (rota_turned n r).due ≡ 0 → (first_block (rota_turned n r).due < n) × (second_block (rota_turned n r).due < n)
   unfolding rota_turned turn_number
-  due-inside e = go (unbroken n r) refl e
+  due_inside e = go (unbroken n r) refl e
     where
       answer : Bool → RotaTurned
       answer t =
@@ -64,29 +64,29 @@ module _ (n : ℕ) (r : Rota) where
           (record { due = NoneDue (5 when not t else 0); rota = r })
 
       go : (t : Bool) → unbroken n r ≡ t → due_number (answer t).due ≡ 0 → (first_block (answer t).due < n) × (second_block (answer t).due < n)
-      go true ok e = let s = plan-fit n r ok in dues_inside n r.next (asks_of r.line) s.inside s.low
+      go true ok e = let s = plan_fit n r ok in dues_inside n r.next (asks_of r.line) s.inside s.low
       go false ok e = absurd (omega arith)
 
 -- ---- the line keeps its places, whatever is answered
 
 module _ (n : ℕ) (r : Rota) (long : length r.line.asks ≡ places) where
-  pub ask-long : (b : ℕ) → length (rota_asked n r b).rota.line.asks ≡ places
+  pub ask_long : (b : ℕ) → length (rota_asked n r b).rota.line.asks ≡ places
   unfolding rota_asked ask_number
-  ask-long b = go (unbroken n r) refl (ask_refusal places n (plan_of r) b) refl
+  ask_long b = go (unbroken n r) refl (ask_refusal places n (plan_of r) b) refl
     where
       go : (t : Bool) → unbroken n r ≡ t → (v : ℕ) → ask_refusal places n (plan_of r) b ≡ v
           → length (if_zero {A = RotaAsked} (5 when not t else v) (record { place = Given (ask_place (plan_of r) b); rota = rota_of (joined (plan_of r) b) })
           (record { place = NoPlace (5 when not t else v); rota = r })).rota.line.asks ≡ places
-      go true ok zero z = said-long places (joined (plan_of r) b).asks (ask-few places n (plan_of r) b (plan-fit n r ok) z)
+      go true ok zero z = said_long places (joined (plan_of r) b).asks (ask_few places n (plan_of r) b (plan_fit n r ok) z)
       go true ok (suc v) z = long
       go false ok v z = long
 
-  pub turn-long : length (rota_turned n r).rota.line.asks ≡ places
+  pub turn_long : length (rota_turned n r).rota.line.asks ≡ places
   unfolding rota_turned turn_number
-  turn-long = go (unbroken n r) refl
+  turn_long = go (unbroken n r) refl
     where
       go : (t : Bool) → unbroken n r ≡ t
           → length (if_zero {A = RotaTurned} (5 when not t else 0) (record { due = due (plan_of r); rota = rota_of (moved_on n (plan_of r)) })
           (record { due = NoneDue (5 when not t else 0); rota = r })).rota.line.asks ≡ places
-      go true ok = said-long places (moved_on n (plan_of r)).asks (turn-sound places n (plan_of r) (plan-fit n r ok)).few
+      go true ok = said_long places (moved_on n (plan_of r)).asks (turn_sound places n (plan_of r) (plan_fit n r ok)).few
       go false ok = long

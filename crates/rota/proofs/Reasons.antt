@@ -19,33 +19,33 @@ use Rattle.rota.specs.Reason.{bad_record, no_block, line_full, rota_ask_rules, r
 use Rattle.rota.specs.declared.line.Line.{Line}
 use Rattle.rota.specs.declared.Rota.{Rota}
 use Rattle.rota.proofs.ListTold.{waiting_told}
-use Rattle.rota.proofs.Broken.{used, used-inside, some-used, used-some, unbroken-told}
+use Rattle.rota.proofs.Broken.{used, used_inside, some_used, used_some, unbroken_told}
 
 -- ---- a line whose places are all in use
 
 module _ (capacity : ℕ) (line : Line) where
-  all-used : (length (asks_of line) < capacity → ⊥) → (k : ℕ) → k < capacity → InUse line k
-  all-used h k l = let m = lt_of_not-le h in used line k (omega arith)
+  all_used : (length (asks_of line) < capacity → ⊥) → (k : ℕ) → k < capacity → InUse line k
+  all_used h k l = let m = lt_of_not-le h in used line k (omega arith)
 
   none_left : ((k : ℕ) → k < capacity → InUse line k) → length (asks_of line) < capacity → ⊥
-  none_left all h = omega (arith, used-inside line (length (asks_of line)) (all (length (asks_of line)) h))
+  none_left all h = omega (arith, used_inside line (length (asks_of line)) (all (length (asks_of line)) h))
 
   pub no_place : (block : ℕ) → Rung (line_full capacity line block) (8 when eqb (place block (asks_of line)) 0 && full capacity (asks_of line) else 0)
   no_place block =
       rung_both (line_full capacity line block) (waiting_told block (asks_of line)) (leb_told capacity (length (asks_of line)))
-      (λ none all. (all-used all, λ k u e. none (some-used line (λ a. a ≡ block) k u e)))
-      (λ r. (λ s. r.1 s.at (used line s.at s.inside) (used-some line (λ a. a ≡ block) s), none_left r.0))
+      (λ none all. (all_used all, λ k u e. none (some_used line (λ a. a ≡ block) k u e)))
+      (λ r. (λ s. r.1 s.at (used line s.at s.inside) (used_some line (λ a. a ≡ block) s), none_left r.0))
 
 -- ---- the ladders
 
 module _ (n : ℕ) (rota : Rota) where
-  pub ask-first : (block : ℕ) → FirstOf (rota_ask_rules n rota block) (ask_number n rota block)
+  pub ask_first : (block : ℕ) → FirstOf (rota_ask_rules n rota block) (ask_number n rota block)
   unfolding ask_number ask_refusal
-  ask-first block =
+  ask_first block =
       let last = line_full places rota.line block in
-      first_told (bad_record n rota) (no_block n block ∷ last ∷ []) _ (unbroken-told n rota)
+      first_told (bad_record n rota) (no_block n block ∷ last ∷ []) _ (unbroken_told n rota)
       (first_told (no_block n block) (last ∷ []) _ (ltb_told block n) (no_place places rota.line block))
 
-  pub turn-first : FirstOf (rota_turn_rules n rota) (turn_number n rota)
+  pub turn_first : FirstOf (rota_turn_rules n rota) (turn_number n rota)
   unfolding turn_number
-  turn-first = first_told (bad_record n rota) [] _ (unbroken-told n rota) refl
+  turn_first = first_told (bad_record n rota) [] _ (unbroken_told n rota) refl

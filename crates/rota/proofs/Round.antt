@@ -11,8 +11,8 @@ use Rattle.rota.specs.Line.{places}
 use Rattle.rota.specs.Plan.{Plan}
 use Rattle.rota.specs.Turning.{onward, moved_on}
 use Rattle.rota.specs.Steps.{Step, ask, turn, other, turns}
-use Rattle.rota.proofs.Plans.{Sound, ask-adds, ask-sound, turn-sound, onward_cases, askAfter}
-use Rattle.rota.proofs.Runs.{planStep, planRun}
+use Rattle.rota.proofs.Plans.{Sound, ask_adds, ask_sound, turn_sound, onward_cases, ask_after}
+use Rattle.rota.proofs.Runs.{plan_step, plan_run}
 
 -- the block is j turns after next, round n
 abbrev pub Away : ℕ → ℕ → ℕ → ℕ → Type 0
@@ -43,18 +43,18 @@ module _ {Other : Type 0} (n : ℕ) where
     pub before : List (Step Other)
     pub after : List (Step Other)
     pub split : l ≡ before ++ turn ∷ after
-    pub here : (planRun n before p).next ≡ b
+    pub here : (plan_run n before p).next ≡ b
 
-  later : (x : Step Other) (p : Plan) (l : List (Step Other)) (b : ℕ) → Reached (planStep n x p) l b → Reached p (x ∷ l) b
-  unfolding planRun
+  later : (x : Step Other) (p : Plan) (l : List (Step Other)) (b : ℕ) → Reached (plan_step n x p) l b → Reached p (x ∷ l) b
+  unfolding plan_run
   later x p l b r = record { before = x ∷ r.before; after = r.after; split = ap (λ (k : List (Step Other)). x ∷ k) r.split; here = r.here }
 
   pub reached : (l : List (Step Other)) (p : Plan) (b j : ℕ) → Sound places n p → b < n → Away n p.next b j → j < turns l → Reached p l b
-  unfolding planRun turns
+  unfolding plan_run turns
   reached [] p b j s h a t = absurd (omega arith)
   reached (ask c ∷ l) p b j s h a t =
-      later (ask c) p l b (reached l (askAfter places n p c) b j (ask-sound places n p c s) h (rw (ask-adds places n p c).2 a) t)
+      later (ask c) p l b (reached l (ask_after places n p c) b j (ask_sound places n p c s) h (rw (ask_adds places n p c).2 a) t)
   reached (turn ∷ l) p b zero s h a t = record { before = []; after = l; split = refl; here = away_zero n p.next b s.inside a }
   reached (turn ∷ l) p b (suc j) s h a t =
-      later turn p l b (reached l (moved_on n p) b j (turn-sound places n p s) h (away_step n p.next b j s.inside h a) (omega arith))
+      later turn p l b (reached l (moved_on n p) b j (turn_sound places n p s) h (away_step n p.next b j s.inside h a) (omega arith))
   reached (other x ∷ l) p b j s h a t = later (other x) p l b (reached l p b j s h a t)

@@ -9,8 +9,8 @@ use Rattle.rota.specs.Turning.{due_of}
 use Rattle.rota.specs.Steps.{Step, ask, turn, other, tick, turns}
 use Rattle.rota.specs.declared.Due.TheVariants.{Two}
 use Rattle.rota.proofs.Waiting.{Stands, first, behind, stands_more}
-use Rattle.rota.proofs.Plans.{ask-adds}
-use Rattle.rota.proofs.Runs.{planStep, planRun}
+use Rattle.rota.proofs.Plans.{ask_adds}
+use Rattle.rota.proofs.Runs.{plan_step, plan_run}
 
 stands_up : {b k : ℕ} {l : List ℕ} → Stands b (suc k) l → Stands b k (drop 1 l)
 stands_up (behind s) = s
@@ -20,12 +20,12 @@ stands_first next first = refl
 
 module _ {Other : Type 0} (n : ℕ) where
   -- a turn moves the block up, and no other step moves it
-  stands-step : (x : Step Other) (p : Plan) (k b : ℕ) → Stands b (tick x k) p.asks → Stands b k (planStep n x p).asks
-  stands-step (ask c) p k b s = let e = ask-adds places n p c in rw e.1 (stands_more e.0 s)
-  stands-step turn p k b s = stands_up s
-  stands-step (other x) p k b s = s
+  stands_step : (x : Step Other) (p : Plan) (k b : ℕ) → Stands b (tick x k) p.asks → Stands b k (plan_step n x p).asks
+  stands_step (ask c) p k b s = let e = ask_adds places n p c in rw e.1 (stands_more e.0 s)
+  stands_step turn p k b s = stands_up s
+  stands_step (other x) p k b s = s
 
-  pub stands-run : (l : List (Step Other)) (p : Plan) (b : ℕ) → Stands b (turns l) p.asks → Stands b 0 (planRun n l p).asks
-  unfolding planRun turns
-  stands-run [] p b s = s
-  stands-run (x ∷ l) p b s = stands-run l (planStep n x p) b (stands-step x p (turns l) b s)
+  pub stands_run : (l : List (Step Other)) (p : Plan) (b : ℕ) → Stands b (turns l) p.asks → Stands b 0 (plan_run n l p).asks
+  unfolding plan_run turns
+  stands_run [] p b s = s
+  stands_run (x ∷ l) p b s = stands_run l (plan_step n x p) b (stands_step x p (turns l) b s)

@@ -36,42 +36,42 @@ module _ {n : ℕ} (M : Memory n) where
   quiet u (suc k) (other x ∷ l) = not (hits u x) && quiet u (suc k) l
 
   -- no flip in the same lane before n turns are over
-  abbrev pub quietAfter : Touch M.Data M.Flip → List (StepOf M) → Bool
-  quietAfter (write b d) l = true
-  quietAfter (read b) l = true
-  quietAfter (visit b) l = true
-  quietAfter (flip f) l = quiet (M.lane f) n l
-  quietAfter nothing l = true
+  abbrev pub quiet_after : Touch M.Data M.Flip → List (StepOf M) → Bool
+  quiet_after (write b d) l = true
+  quiet_after (read b) l = true
+  quiet_after (visit b) l = true
+  quiet_after (flip f) l = quiet (M.lane f) n l
+  quiet_after nothing l = true
 
   unfoldable pub spaced? : List (StepOf M) → Bool
   spaced? [] = true
   spaced? (ask b ∷ l) = spaced? l
   spaced? (turn ∷ l) = spaced? l
-  spaced? (other x ∷ l) = quietAfter x l && spaced? l
+  spaced? (other x ∷ l) = quiet_after x l && spaced? l
 
-  quiet-turns : (mid post : List (StepOf M)) (u : M.Lane) (k : ℕ) (g : M.Flip) → M.lane g ≡ u
+  quiet_turns : (mid post : List (StepOf M)) (u : M.Lane) (k : ℕ) (g : M.Flip) → M.lane g ≡ u
       → quiet u k (mid ++ other (flip g) ∷ post) ≡ true → k ≤ turns mid
   unfolding quiet turns
-  quiet-turns mid post u zero g e q = omega arith
-  quiet-turns [] post u (suc k) g e q =
+  quiet_turns mid post u zero g e q = omega arith
+  quiet_turns [] post u (suc k) g e q =
       absurd (not_held (M.lane? (M.lane g) u) e (both (not (holds (M.lane? (M.lane g) u))) (quiet u (suc k) post) q).0)
-  quiet-turns (ask b ∷ mid) post u (suc k) g e q = quiet-turns mid post u (suc k) g e q
-  quiet-turns (turn ∷ mid) post u (suc k) g e q = let r = quiet-turns mid post u k g e q in omega arith
-  quiet-turns (other x ∷ mid) post u (suc k) g e q =
-      quiet-turns mid post u (suc k) g e (both (not (hits u x)) (quiet u (suc k) (mid ++ other (flip g) ∷ post)) q).1
+  quiet_turns (ask b ∷ mid) post u (suc k) g e q = quiet_turns mid post u (suc k) g e q
+  quiet_turns (turn ∷ mid) post u (suc k) g e q = let r = quiet_turns mid post u k g e q in omega arith
+  quiet_turns (other x ∷ mid) post u (suc k) g e q =
+      quiet_turns mid post u (suc k) g e (both (not (hits u x)) (quiet u (suc k) (mid ++ other (flip g) ∷ post)) q).1
 
-  spaced-at : (pre mid post : List (StepOf M)) (f g : M.Flip) → spaced? (pre ++ other (flip f) ∷ (mid ++ other (flip g) ∷ post)) ≡ true
+  spaced_at : (pre mid post : List (StepOf M)) (f g : M.Flip) → spaced? (pre ++ other (flip f) ∷ (mid ++ other (flip g) ∷ post)) ≡ true
       → M.lane f ≡ M.lane g → n ≤ turns mid
   unfolding spaced?
-  spaced-at [] mid post f g q e =
+  spaced_at [] mid post f g q e =
       let l = mid ++ other (flip g) ∷ post in
-      quiet-turns mid post (M.lane f) n g (sym e) (both (quiet (M.lane f) n l) (spaced? l) q).0
-  spaced-at (ask b ∷ pre) mid post f g q e = spaced-at pre mid post f g q e
-  spaced-at (turn ∷ pre) mid post f g q e = spaced-at pre mid post f g q e
-  spaced-at (other x ∷ pre) mid post f g q e =
+      quiet_turns mid post (M.lane f) n g (sym e) (both (quiet (M.lane f) n l) (spaced? l) q).0
+  spaced_at (ask b ∷ pre) mid post f g q e = spaced_at pre mid post f g q e
+  spaced_at (turn ∷ pre) mid post f g q e = spaced_at pre mid post f g q e
+  spaced_at (other x ∷ pre) mid post f g q e =
       let l = pre ++ other (flip f) ∷ (mid ++ other (flip g) ∷ post) in
-      spaced-at pre mid post f g (both (quietAfter x l) (spaced? l) q).1 e
+      spaced_at pre mid post f g (both (quiet_after x l) (spaced? l) q).1 e
 
-  pub spaced-true : (l : List (StepOf M)) → spaced? l ≡ true → Spaced M l
-  spaced-true l q pre mid post f g e =
-      spaced-at pre mid post f g (sym (ap spaced? (e ∙ append_assoc pre (other (flip f) ∷ mid) (other (flip g) ∷ post))) ∙ q)
+  pub spaced_true : (l : List (StepOf M)) → spaced? l ≡ true → Spaced M l
+  spaced_true l q pre mid post f g e =
+      spaced_at pre mid post f g (sym (ap spaced? (e ∙ append_assoc pre (other (flip f) ∷ mid) (other (flip g) ∷ post))) ∙ q)

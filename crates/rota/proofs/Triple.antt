@@ -13,9 +13,9 @@ use Rattle.rota.specs.Record.{unbroken, turn_number, rota_turned}
 use Rattle.rota.specs.Steps.{turn, other}
 use Rattle.rota.specs.Touches.{flip, read, last_written}
 use Rattle.rota.specs.Memory.{Memory}
-use Rattle.rota.specs.Patrol.{StepOf, memoryRun, memoryAt}
+use Rattle.rota.specs.Patrol.{StepOf, memory_run, memory_at}
 use Rattle.rota.proofs.Patrol.{read_right}
-use Rattle.rota.proofs.Spacing.{spaced?, spaced-true, quiet}
+use Rattle.rota.proofs.Spacing.{spaced?, spaced_true, quiet}
 
 record Copies : Type 0 where
   left : Bool
@@ -122,13 +122,13 @@ unfolding spaced? quiet
 enough_spaced = refl
 
 -- two turns lie between: the read is right
-enough_right : (triple 2).read 1 (memoryAt (triple 2) enough) ≡ false
+enough_right : (triple 2).read 1 (memory_at (triple 2) enough) ≡ false
 unfolding last_written
 enough_right =
     let l = enough ++ other (read 1) ∷ [] in
-    read_right (triple 2) (omega arith) l (spaced-true (triple 2) l enough_spaced) enough [] 1 refl (omega arith)
+    read_right (triple 2) (omega arith) l (spaced_true (triple 2) l enough_spaced) enough [] 1 refl (omega arith)
 
 -- one turn lies between: the read is wrong
-too_few_wrong : (triple 2).read 1 (memoryAt (triple 2) too_few) ≡ true
-unfolding memoryRun rota_turned turn_number unbroken sound below none_twice zeros
+too_few_wrong : (triple 2).read 1 (memory_at (triple 2) too_few) ≡ true
+unfolding memory_run rota_turned turn_number unbroken sound below none_twice zeros
 too_few_wrong = refl

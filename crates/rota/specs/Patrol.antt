@@ -2,7 +2,7 @@
 -- Assumes nothing.
 use Rattle.std.specs.Prelude.{ℕ, ◌≤◌, ◌≡◌, List, [], ◌∷◌, ◌++◌}
 use Rattle.rota.specs.Record.{fresh, rota_turned}
-use Rattle.rota.specs.Steps.{Step, ask, turn, other, turns, rotaStep}
+use Rattle.rota.specs.Steps.{Step, ask, turn, other, turns, rota_step}
 use Rattle.rota.specs.Touches.{Touch, write, read, visit, flip, nothing}
 use Rattle.rota.specs.Memory.{Memory}
 use Rattle.rota.specs.declared.Rota.{Rota}
@@ -27,18 +27,18 @@ module _ {n : ℕ} (M : Memory n) where
   visited (Two first second) m = M.visit second (M.visit first m)
 
   -- the memory after a step, and after a list of steps
-  abbrev pub memoryStep : StepOf → Rota → M.State → M.State
-  memoryStep (ask block) rota m = m
-  memoryStep turn rota m = visited (rota_turned n rota).due m
-  memoryStep (other touch) rota m = touched touch m
+  abbrev pub memory_step : StepOf → Rota → M.State → M.State
+  memory_step (ask block) rota m = m
+  memory_step turn rota m = visited (rota_turned n rota).due m
+  memory_step (other touch) rota m = touched touch m
 
-  unfoldable pub memoryRun : List StepOf → Rota → M.State → M.State
-  memoryRun [] rota m = m
-  memoryRun (step ∷ rest) rota m = memoryRun rest (rotaStep n step rota) (memoryStep step rota m)
+  unfoldable pub memory_run : List StepOf → Rota → M.State → M.State
+  memory_run [] rota m = m
+  memory_run (step ∷ rest) rota m = memory_run rest (rota_step n step rota) (memory_step step rota m)
 
   -- the memory after the steps, where memory and record were fresh
-  abbrev pub memoryAt : List StepOf → M.State
-  memoryAt steps = memoryRun steps fresh M.fresh
+  abbrev pub memory_at : List StepOf → M.State
+  memory_at steps = memory_run steps fresh M.fresh
 
   -- at least n turns lie between any two flips in one lane
   abbrev pub Spaced : List StepOf → Type 0

@@ -25,18 +25,18 @@ module _ {Other : Type 0} where
 
   module _ (n : ℕ) where
     -- the record after a step, and after a list of steps
-    abbrev pub rotaStep : Step Other → Rota → Rota
-    rotaStep (ask block) rota = (rota_asked n rota block).rota
-    rotaStep turn rota = (rota_turned n rota).rota
-    rotaStep (other step) rota = rota
+    abbrev pub rota_step : Step Other → Rota → Rota
+    rota_step (ask block) rota = (rota_asked n rota block).rota
+    rota_step turn rota = (rota_turned n rota).rota
+    rota_step (other step) rota = rota
 
-    unfoldable pub rotaRun : List (Step Other) → Rota → Rota
-    rotaRun [] rota = rota
-    rotaRun (step ∷ rest) rota = rotaRun rest (rotaStep step rota)
+    unfoldable pub rota_run : List (Step Other) → Rota → Rota
+    rota_run [] rota = rota
+    rota_run (step ∷ rest) rota = rota_run rest (rota_step step rota)
 
     -- the record after the steps, from the fresh one, and what a turn then answers
-    abbrev pub rotaAt : List (Step Other) → Rota
-    rotaAt steps = rotaRun steps fresh
+    abbrev pub rota_at : List (Step Other) → Rota
+    rota_at steps = rota_run steps fresh
 
     abbrev pub due_at : List (Step Other) → Due
-    due_at steps = (rota_turned n (rotaAt steps)).due
+    due_at steps = (rota_turned n (rota_at steps)).due

@@ -29,11 +29,11 @@ use Rattle.store.specs.Refusal.{data_refusal}
 use Rattle.store.specs.Visit.{visit_answer, visit_after, Visits, VisitsAccepted}
 use Rattle.ground.proofs.Choices.{refused_kept}
 use Rattle.store.proofs.Answers.{answered-refused}
-use Rattle.store.proofs.Promises.{writes, reads, visits, visits-answer, visits-accepted}
-use Rattle.store.proofs.Image.{gathered-stride, placed-stride}
-use Rattle.store.proofs.Located.{list-fits}
-use Rattle.store.proofs.Strides.{left, read-long}
-use Rattle.block.proofs.Told.{NotLost, lost-some, not-lost, not-mended}
+use Rattle.store.proofs.Promises.{writes, reads, visits, visits_answer, visits_accepted}
+use Rattle.store.proofs.Image.{gathered_stride, placed_stride}
+use Rattle.store.proofs.Located.{list_fits}
+use Rattle.store.proofs.Strides.{left, read_long}
+use Rattle.block.proofs.Told.{NotLost, lost_some, not_lost, not_mended}
 
 -- a buffer of the exact length holds the data words alone
 data_fills : (shape : Shape) (block buffer : List ℕ) → length buffer ≡ words shape → data_into shape block buffer ≡ data_of shape block
@@ -45,36 +45,36 @@ data_fills shape block buffer fits =
 -- ---- refused: the number is the answer, and what was lent stays
 
 module _ (image : List ℕ) (layout : Layout) (block number : ℕ) where
-  pub write-refused : (list : List ℕ) → data_refusal (length image) layout block (length list) ≡ number → (number ≡ 0 → ⊥)
+  pub write_refused : (list : List ℕ) → data_refusal (length image) layout block (length list) ≡ number → (number ≡ 0 → ⊥)
       → Writes image layout block list (Refused number) image
   unfolding write_answer write_after
-  write-refused list e ne = writes _ _ _ _ (rw e (sym (answered-refused number _ ne))) (rw e (sym (refused_kept number _ image ne)))
+  write_refused list e ne = writes _ _ _ _ (rw e (sym (answered-refused number _ ne))) (rw e (sym (refused_kept number _ image ne)))
 
-  pub read-refused : (buffer : List ℕ) → data_refusal (length image) layout block (length buffer) ≡ number → (number ≡ 0 → ⊥)
+  pub read_refused : (buffer : List ℕ) → data_refusal (length image) layout block (length buffer) ≡ number → (number ≡ 0 → ⊥)
       → Reads image layout block buffer (Refused number) image buffer
   unfolding read_answer read_buffer
-  read-refused buffer e ne = reads _ _ _ _ (rw e (sym (answered-refused number _ ne))) (rw e (sym (refused_kept number _ buffer ne)))
+  read_refused buffer e ne = reads _ _ _ _ (rw e (sym (answered-refused number _ ne))) (rw e (sym (refused_kept number _ buffer ne)))
 
-  pub visit-refused : block_refusal (length image) layout block ≡ number → (number ≡ 0 → ⊥) → Visits image layout block (Refused number) image
+  pub visit_refused : block_refusal (length image) layout block ≡ number → (number ≡ 0 → ⊥) → Visits image layout block (Refused number) image
   unfolding visit_answer visit_after
-  visit-refused e ne = visits _ _ _ (rw e (sym (answered-refused number _ ne))) (rw e (sym (refused_kept number _ image ne)))
+  visit_refused e ne = visits _ _ _ (rw e (sym (answered-refused number _ ne))) (rw e (sym (refused_kept number _ image ne)))
 
 -- ---- accepted: from what the steps gave
 
 module _ (image : List ℕ) {layout : Layout} {block : ℕ} {shape : Shape} {at : ℕ} (site : Located (length image) layout block shape at) where
   -- the rows that are gathered are the block, and those that are scattered lie where it does
   whole : taken shape image at layout.s ≡ gathered layout block image
-  whole = rw (site.first, site.same_shape) (gathered-stride layout block image)
+  whole = rw (site.first, site.same_shape) (gathered_stride layout block image)
 
   scattered : (given : List ℕ) → put shape image at layout.s given ≡ placed layout block given image
-  scattered given = rw (site.first, site.same_shape) (placed-stride layout block given image)
+  scattered given = rw (site.first, site.same_shape) (placed_stride layout block given image)
 
-  pub write-stored : (list valid after : List ℕ) → length list ≡ words shape → valid ≡ valid_block shape list
+  pub write_stored : (list valid after : List ℕ) → length list ≡ words shape → valid ≡ valid_block shape list
       → after ≡ put shape image at layout.s valid
       → Writes image layout block list Stored after
   unfolding write_answer write_after
-  write-stored list valid after fits e w =
-      let none = list-fits (length image) layout block site (length list) fits in
+  write_stored list valid after fits e w =
+      let none = list_fits (length image) layout block site (length list) fits in
       writes _ _ _ _ (rw none)
       (rw none (w ∙ scattered valid ∙ ap (λ (l : List ℕ). placed layout block l image) (e ∙ ap (λ (k : Shape). valid_block k list) site.same_shape)))
 
@@ -88,10 +88,10 @@ module _ (image : List ℕ) {layout : Layout} {block : ℕ} {shape : Shape} {at 
     mends : (mended : List ℕ) → mended ≡ mended_block shape found → mended ≡ mended_block (shape_of layout) (gathered layout block image)
     mends mended e = e ∙ ap₂ mended_block site.same_shape seen
 
-    pub visit-found : (after : List ℕ) → after ≡ put shape image at layout.s (mended_block shape found)
+    pub visit_found : (after : List ℕ) → after ≡ put shape image at layout.s (mended_block shape found)
         → Visits image layout block (Found v) after
     unfolding visit_answer visit_after
-    visit-found after w =
+    visit_found after w =
         visits _ _ _ (rw site.passed (ap Found judged))
         (rw site.passed
         (w ∙ scattered (mended_block shape found) ∙ ap (λ (l : List ℕ). placed layout block l image) (mends (mended_block shape found) refl)))
@@ -99,36 +99,36 @@ module _ (image : List ℕ) {layout : Layout} {block : ℕ} {shape : Shape} {at 
     module _ (buffer : List ℕ) (fits : length buffer ≡ words shape) where
       read_answer : Found v ≡ read_answer image layout block buffer
       unfolding read_answer
-      read_answer = rw (list-fits (length image) layout block site (length buffer) fits) (ap Found judged)
+      read_answer = rw (list_fits (length image) layout block site (length buffer) fits) (ap Found judged)
 
-      pub read-lost : (e b : ℕ) → v ≡ Lost e b → Reads image layout block buffer (Found v) image buffer
+      pub read_lost : (e b : ℕ) → v ≡ Lost e b → Reads image layout block buffer (Found v) image buffer
       unfolding read_buffer mended_data
-      read-lost e b l =
+      read_lost e b l =
           reads _ _ _ _ read_answer
-          (rw (list-fits (length image) layout block site (length buffer) fits)
-          (sym (refused_kept _ _ buffer (lost-some (shape_of layout) (gathered layout block image) v judged e b l))))
+          (rw (list_fits (length image) layout block site (length buffer) fits)
+          (sym (refused_kept _ _ buffer (lost_some (shape_of layout) (gathered layout block image) v judged e b l))))
 
-      pub read-data : NotLost v → (mended after : List ℕ) → mended ≡ mended_block shape found → after ≡ data_into shape mended buffer
+      pub read_data : NotLost v → (mended after : List ℕ) → mended ≡ mended_block shape found → after ≡ data_into shape mended buffer
           → Reads image layout block buffer (Found v) image after
       unfolding read_buffer mended_data
-      read-data keys mended after e a =
+      read_data keys mended after e a =
           reads _ _ _ _ read_answer
-          (rw (list-fits (length image) layout block site (length buffer) fits, not-lost (shape_of layout) (gathered layout block image) v judged keys)
+          (rw (list_fits (length image) layout block site (length buffer) fits, not_lost (shape_of layout) (gathered layout block image) v judged keys)
           (a ∙ data_fills shape mended buffer fits ∙ ap₂ data_of site.same_shape (mends mended e)))
 
   -- the data of a valid block are read where they lie
-  pub read-clean : Clean ≡ verdict_of shape (taken shape image at layout.s) → (buffer after : List ℕ) → length buffer ≡ words shape
+  pub read_clean : Clean ≡ verdict_of shape (taken shape image at layout.s) → (buffer after : List ℕ) → length buffer ≡ words shape
       → after ≡ data_into shape (taken shape image at layout.s) buffer
       → Reads image layout block buffer (Found Clean) image after
-  read-clean says buffer after fits e =
-      read-data _ refl Clean says buffer fits (hit (0 ∷ 1 ∷ []) 0 tt) _ after
-      (sym (not-mended shape (taken shape image at layout.s) Clean says (read-long image shape at layout.s) (hit (0 ∷ 2 ∷ []) 0 tt))) e
+  read_clean says buffer after fits e =
+      read_data _ refl Clean says buffer fits (hit (0 ∷ 1 ∷ []) 0 tt) _ after
+      (sym (not_mended shape (taken shape image at layout.s) Clean says (read_long image shape at layout.s) (hit (0 ∷ 2 ∷ []) 0 tt))) e
 
   -- a valid block is left where it lies
-  pub visit-clean : Clean ≡ verdict_of shape (taken shape image at layout.s) → Visits image layout block (Found Clean) image
-  visit-clean says = visit-found _ refl Clean says image (left image shape at layout.s Clean says (hit (0 ∷ 2 ∷ []) 0 tt))
+  pub visit_clean : Clean ≡ verdict_of shape (taken shape image at layout.s) → Visits image layout block (Found Clean) image
+  visit_clean says = visit_found _ refl Clean says image (left image shape at layout.s Clean says (hit (0 ∷ 2 ∷ []) 0 tt))
 
 -- a visit for a caller who wants its verdict alone
 pub accepts : {image : List ℕ} {layout : Layout} {block : ℕ} {answer : Answer} {after : List ℕ} → Visits image layout block answer after
     → VisitsAccepted image layout block (verdict_in answer) after
-accepts visited = visits-accepted _ _ _ (ap verdict_in (visits-answer _ _ _ visited)) visited.leaves
+accepts visited = visits_accepted _ _ _ (ap verdict_in (visits_answer _ _ _ visited)) visited.leaves

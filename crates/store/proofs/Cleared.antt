@@ -10,10 +10,10 @@ use Rattle.ground.proofs.Choices.{refused_kept}
 use Rattle.layout.specs.declared.Layout.{Layout}
 use Rattle.layout.specs.Layout.{rows_of, blocks}
 use Rattle.layout.specs.Refusal.{image_refusal}
-use Rattle.layout.proofs.Ladder.{image-exact}
+use Rattle.layout.proofs.Ladder.{image_exact}
 use Rattle.stored.specs.Stored.{complemented_image, ComplementsImage}
 use Rattle.store.specs.Fresh.{fresh_after, Clears}
-use Rattle.store.proofs.FreshBlocks.{fresh-stored}
+use Rattle.store.proofs.FreshBlocks.{fresh_stored}
 
 -- the image with its first words cleared
 abbrev pub cleared : ℕ → List ℕ → List ℕ
@@ -36,20 +36,20 @@ cleared_all image k e =
 -- ---- the fresh image
 
 module _ (image : List ℕ) (layout : Layout) (number : ℕ) (checked : number ≡ image_refusal (length image) layout) where
-  pub fresh-refused : (number ≡ 0 → ⊥) → Clears image layout number image
+  pub fresh_refused : (number ≡ 0 → ⊥) → Clears image layout number image
   unfolding fresh_after
-  fresh-refused ne = record { answers = checked; leaves = rw (← checked) (sym (refused_kept number _ image ne)) }
+  fresh_refused ne = record { answers = checked; leaves = rw (← checked) (sym (refused_kept number _ image ne)) }
 
-  pub fresh-made : number ≡ 0 → (zeros after : List ℕ) (k : ℕ) → k ≡ length image → zeros ≡ cleared k image → ComplementsImage zeros layout after
+  pub fresh_made : number ≡ 0 → (zeros after : List ℕ) (k : ℕ) → k ≡ length image → zeros ≡ cleared k image → ComplementsImage zeros layout after
       → Clears image layout 0 after
   unfolding fresh_after
-  fresh-made passed zeros after k whole e complements =
+  fresh_made passed zeros after k whole e complements =
       let none = sym checked ∙ passed in
       let words = rows_of layout * blocks layout in
-      let all : zeros ≡ replicate words 0 = e ∙ cleared_all image k whole ∙ ap (λ (n : ℕ). replicate n 0) (image-exact layout (length image) none) in
+      let all : zeros ≡ replicate words 0 = e ∙ cleared_all image k whole ∙ ap (λ (n : ℕ). replicate n 0) (image_exact layout (length image) none) in
       let size : length zeros ≡ length image = ap length e ∙ length_cleared image k (omega arith) in
       let fits : image_refusal (length zeros) layout ≡ 0 = rw size none in
       record {
         answers = sym none;
-        leaves = rw none (complements ∙ rw fits (ap (complemented_image layout) all ∙ fresh-stored layout));
+        leaves = rw none (complements ∙ rw fits (ap (complemented_image layout) all ∙ fresh_stored layout));
       }

@@ -11,7 +11,7 @@ use Rattle.layout.specs.declared.Layout.{Layout}
 use Rattle.layout.specs.Layout.{words_of}
 use Rattle.layout.specs.Refusal.{block_refusal}
 use Rattle.layout.specs.Reason.{block_rules}
-use Rattle.layout.proofs.Ladder.{block-first}
+use Rattle.layout.proofs.Ladder.{block_first}
 use Rattle.store.specs.Refusal.{list_rung, data_refusal}
 use Rattle.store.specs.Reason.{bad_list, data_rules}
 
@@ -22,14 +22,14 @@ list_rung_lem layout list =
     (λ e r. r (eqb-true _ _ (not-false _ e)))
 
 module _ (len : ℕ) (layout : Layout) (block list : ℕ) where
-  pub data-accepted : data_refusal len layout block list ≡ 0 → (block_refusal len layout block ≡ 0) × (list ≡ words_of layout)
+  pub data_accepted : data_refusal len layout block list ≡ 0 → (block_refusal len layout block ≡ 0) × (list ≡ words_of layout)
   unfolding data_refusal
-  data-accepted e =
+  data_accepted e =
       let p = then_zero (block_refusal len layout block) (list_rung layout list) e in (
         p.0,
         not_other list (words_of layout) (rung_passed (bad_list layout list) (list_rung layout list) (λ z. omega arith) (list_rung_lem layout list) p.1),
       )
 
-  pub data-first : FirstOf (data_rules len layout block list) (data_refusal len layout block list)
+  pub data_first : FirstOf (data_rules len layout block list) (data_refusal len layout block list)
   unfolding data_refusal
-  data-first = first_more (block_rules len layout block) (bad_list layout list) _ _ tt (block-first layout len block) (list_rung_lem layout list)
+  data_first = first_more (block_rules len layout block) (bad_list layout list) _ _ tt (block_first layout len block) (list_rung_lem layout list)

@@ -19,9 +19,9 @@ use Rattle.store.specs.Inner.{Inside}
 
 module _ (len : ℕ) (layout : Layout) (block : ℕ) where
   -- a refusal stands, whatever the list's length
-  pub data-refused : (number list : ℕ) → site_of len layout block ≡ Nowhere number → (data_refusal len layout block list ≡ number) × (number ≡ 0 → ⊥)
+  pub data_refused : (number list : ℕ) → site_of len layout block ≡ Nowhere number → (data_refusal len layout block list ≡ number) × (number ≡ 0 → ⊥)
   unfolding data_refusal
-  data-refused number list e =
+  data_refused number list e =
       let r = refused len layout block number e in
       (rw r.0 (then_first number (list_rung layout list) r.1), r.1)
 
@@ -40,10 +40,10 @@ module _ (len : ℕ) (layout : Layout) (block : ℕ) where
         let there = rows_inside len layout block site 0 (omega arith) in
         omega (arith, ok.exact, ok.geometry.n_last, few, there)
 
-    pub list-refused : (list : ℕ) → (list ≡ words shape → ⊥) → data_refusal len layout block list ≡ 7
+    pub list_refused : (list : ℕ) → (list ≡ words shape → ⊥) → data_refusal len layout block list ≡ 7
     unfolding data_refusal
-    list-refused list ne = rw (site.passed, ← site.same_shape, ne_eqb list (words shape) ne)
+    list_refused list ne = rw (site.passed, ← site.same_shape, ne_eqb list (words shape) ne)
 
-    pub list-fits : (list : ℕ) → list ≡ words shape → data_refusal len layout block list ≡ 0
+    pub list_fits : (list : ℕ) → list ≡ words shape → data_refusal len layout block list ≡ 0
     unfolding data_refusal
-    list-fits list e = rw (site.passed, ← site.same_shape, eq-eqb list (words shape) e)
+    list_fits list e = rw (site.passed, ← site.same_shape, eq-eqb list (words shape) e)

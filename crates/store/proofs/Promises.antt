@@ -8,7 +8,7 @@ use lib.ListN.{length}
 use Rattle.ground.specs.Choice.{if_zero}
 use Rattle.block.specs.declared.Verdict.{Verdict}
 use Rattle.block.specs.Verdict.{Said, said_of, to_say, verdict_of}
-use Rattle.block.proofs.Verdicts.{verdict-says, said_told}
+use Rattle.block.proofs.Verdicts.{verdict_says, said_told}
 use Rattle.layout.specs.declared.Layout.{Layout}
 use Rattle.layout.specs.Layout.{shape_of}
 use Rattle.layout.specs.Refusal.{block_refusal}
@@ -35,7 +35,7 @@ module _ (image : List ℕ) (layout : Layout) (block : ℕ) where
       (answered refusal (Found (verdict_of (shape_of layout) (gathered layout block image))))
   found refusal =
       subst (λ (said : Said). Answers refusal said (answered refusal (Found (verdict_of (shape_of layout) (gathered layout block image)))))
-      (verdict-says (shape_of layout) (gathered layout block image))
+      (verdict_says (shape_of layout) (gathered layout block image))
       (answers_by refusal (Found (verdict_of (shape_of layout) (gathered layout block image))) refl (not_found _))
 
   -- ---- write
@@ -45,9 +45,9 @@ module _ (image : List ℕ) (layout : Layout) (block : ℕ) where
     unfolding write_answer
     writes e f = record { answers = rw e (answers_by (data_refusal (length image) layout block (length list)) Stored refl not_stored); leaves = f }
 
-    pub writes-answer : Writes image layout block list answer after → answer ≡ write_answer image layout block list
+    pub writes_answer : Writes image layout block list answer after → answer ≡ write_answer image layout block list
     unfolding write_answer
-    writes-answer w = answers_one answer _ w.answers (answers_by (data_refusal (length image) layout block (length list)) Stored refl not_stored)
+    writes_answer w = answers_one answer _ w.answers (answers_by (data_refusal (length image) layout block (length list)) Stored refl not_stored)
 
   -- ---- read
 
@@ -57,9 +57,9 @@ module _ (image : List ℕ) (layout : Layout) (block : ℕ) where
     unfolding read_answer
     reads e f = record { answers = rw e (found (data_refusal (length image) layout block (length buffer))); keeps = refl; leaves = f }
 
-    pub reads-answer : {kept : List ℕ} → Reads image layout block buffer answer kept after → answer ≡ read_answer image layout block buffer
+    pub reads_answer : {kept : List ℕ} → Reads image layout block buffer answer kept after → answer ≡ read_answer image layout block buffer
     unfolding read_answer
-    reads-answer w = answers_one answer _ w.answers (found (data_refusal (length image) layout block (length buffer)))
+    reads_answer w = answers_one answer _ w.answers (found (data_refusal (length image) layout block (length buffer)))
 
   -- ---- visit
 
@@ -68,9 +68,9 @@ module _ (image : List ℕ) (layout : Layout) (block : ℕ) where
     unfolding visit_answer
     visits e f = record { answers = rw e (found (block_refusal (length image) layout block)); leaves = f }
 
-    pub visits-answer : Visits image layout block answer after → answer ≡ visit_answer image layout block
+    pub visits_answer : Visits image layout block answer after → answer ≡ visit_answer image layout block
     unfolding visit_answer
-    visits-answer w = answers_one answer _ w.answers (found (block_refusal (length image) layout block))
+    visits_answer w = answers_one answer _ w.answers (found (block_refusal (length image) layout block))
 
   -- what a caller hears who wants the verdict alone
   heard : said_of (verdict_in (visit_answer image layout block))
@@ -80,12 +80,12 @@ module _ (image : List ℕ) (layout : Layout) (block : ℕ) where
     where
       by : (n : ℕ) → said_of (verdict_in (answered n (Found (verdict_of (shape_of layout) (gathered layout block image)))))
           ≡ if_zero n (to_say (shape_of layout) (gathered layout block image)) (said_of Clean)
-      by zero = verdict-says (shape_of layout) (gathered layout block image)
+      by zero = verdict_says (shape_of layout) (gathered layout block image)
       by (suc n) = refl
 
   module _ {v : Verdict} {after : List ℕ} where
-    pub visits-accepted : v ≡ verdict_in (visit_answer image layout block) → after ≡ visit_after image layout block → VisitsAccepted image layout block v after
-    visits-accepted e f = record { says = ap said_of e ∙ heard; leaves = f }
+    pub visits_accepted : v ≡ verdict_in (visit_answer image layout block) → after ≡ visit_after image layout block → VisitsAccepted image layout block v after
+    visits_accepted e f = record { says = ap said_of e ∙ heard; leaves = f }
 
-    pub accepted-verdict : VisitsAccepted image layout block v after → v ≡ verdict_in (visit_answer image layout block)
-    accepted-verdict w = said_told v _ (w.says ∙ sym heard)
+    pub accepted_verdict : VisitsAccepted image layout block v after → v ≡ verdict_in (visit_answer image layout block)
+    accepted_verdict w = said_told v _ (w.says ∙ sym heard)

@@ -18,8 +18,8 @@ module _ (at s k : ℕ) {i : ℕ} (there : i ≡ at + k * s) where
   along j = omega (arith, add-mul k j s)
 
   -- where four rows are left they lie in the image
-  pub four-inside : {len rows : ℕ} → Inside len rows at s → k + 4 ≤ rows → FourInside len i s
-  four-inside h left = omega (arith, h.1 (k + 3) (omega arith), along 3)
+  pub four_inside : {len rows : ℕ} → Inside len rows at s → k + 4 ≤ rows → FourInside len i s
+  four_inside h left = omega (arith, h.1 (k + 3) (omega arith), along 3)
 
 -- one store more than k, of what is to be stored where it is
 pub one_store : (d : List ℕ) (f v : ℕ → ℕ) (k : ℕ) {l : List ℕ} {f0 v0 : ℕ} → l ≡ stores d f v k → f0 ≡ f k → v0 ≡ v k → set l f0 v0 ≡ stores d f v (k + 1)

@@ -41,63 +41,63 @@ word_kept p w h = rw (lt-leb p 2 h) (xor_zero_r w)
 -- ---- words, whichever rows they are of
 
 module _ (row_of : ℕ → ℕ) where
-  length-by : (words : List ℕ) → length (complemented_by row_of words) ≡ length words
-  length-by words = length_list_of (length words) _
+  length_by : (words : List ℕ) → length (complemented_by row_of words) ≡ length words
+  length_by words = length_list_of (length words) _
 
-  word-by : (words : List ℕ) (at : ℕ) → at < length words → get_or (complemented_by row_of words) at 0 ≡ complemented_in (row_of at) (get_or words at 0)
-  word-by words at h = get_or_list_of (length words) (λ at. complemented_in (row_of at) (get_or words at 0)) at h
+  word_by : (words : List ℕ) (at : ℕ) → at < length words → get_or (complemented_by row_of words) at 0 ≡ complemented_in (row_of at) (get_or words at 0)
+  word_by words at h = get_or_list_of (length words) (λ at. complemented_in (row_of at) (get_or words at 0)) at h
 
-  twice-by : (words : List ℕ) → complemented_by row_of (complemented_by row_of words) ≡ words
-  twice-by words =
+  twice_by : (words : List ℕ) → complemented_by row_of (complemented_by row_of words) ≡ words
+  twice_by words =
       let once = complemented_by row_of words in
-      ext_get_or 0 (complemented_by row_of once) words (length-by once ∙ length-by words)
+      ext_get_or 0 (complemented_by row_of once) words (length_by once ∙ length_by words)
       (λ at h.
-      let l : at < length words = omega (arith, length-by once, length-by words) in
-      word-by once at (rw (length-by words) l) ∙ ap (complemented_in (row_of at)) (word-by words at l) ∙ word_twice (row_of at) (get_or words at 0))
+      let l : at < length words = omega (arith, length_by once, length_by words) in
+      word_by once at (rw (length_by words) l) ∙ ap (complemented_in (row_of at)) (word_by words at l) ∙ word_twice (row_of at) (get_or words at 0))
 
 -- ---- a block
 
 module _ (block : List ℕ) where
-  pub length-complemented : length (complemented block) ≡ length block
+  pub length_complemented : length (complemented block) ≡ length block
   unfolding complemented
-  length-complemented = length-by suc block
+  length_complemented = length_by suc block
 
-  pub row-complemented : (k : ℕ) → k < length block → get_or (complemented block) k 0 ≡ complemented_in (suc k) (get_or block k 0)
+  pub row_complemented : (k : ℕ) → k < length block → get_or (complemented block) k 0 ≡ complemented_in (suc k) (get_or block k 0)
   unfolding complemented
-  row-complemented = word-by suc block
+  row_complemented = word_by suc block
 
-  pub complemented-twice : complemented (complemented block) ≡ block
+  pub complemented_twice : complemented (complemented block) ≡ block
   unfolding complemented
-  complemented-twice = twice-by suc block
+  complemented_twice = twice_by suc block
 
   -- the words past the end are none in both forms
-  pub past-complemented : (k : ℕ) → length block ≤ k → get_or (complemented block) k 0 ≡ 0
-  past-complemented k h = get_or-eq_default (complemented block) 0 {n = k} (rw length-complemented h)
+  pub past_complemented : (k : ℕ) → length block ≤ k → get_or (complemented block) k 0 ≡ 0
+  past_complemented k h = get_or-eq_default (complemented block) 0 {n = k} (rw length_complemented h)
 
   -- the words after row 2 are as they are
-  pub rest-complemented : (k : ℕ) → 2 ≤ k → get_or (complemented block) k 0 ≡ get_or block k 0
-  rest-complemented k h =
-      ⊎_elim (λ l. row-complemented k l ∙ word_kept (suc k) (get_or block k 0) (omega arith))
-      (λ l. past-complemented k l ∙ sym (get_or-eq_default block 0 {n = k} l))
+  pub rest_complemented : (k : ℕ) → 2 ≤ k → get_or (complemented block) k 0 ≡ get_or block k 0
+  rest_complemented k h =
+      ⊎_elim (λ l. row_complemented k l ∙ word_kept (suc k) (get_or block k 0) (omega arith))
+      (λ l. past_complemented k l ∙ sym (get_or-eq_default block 0 {n = k} l))
       (split_below k (length block))
 
-  pub complemented-fits : ((k : ℕ) → get_or block k 0 < 2 ^ 32) → (k : ℕ) → get_or (complemented block) k 0 < 2 ^ 32
-  complemented-fits fits k =
-      ⊎_elim (λ l. rw (row-complemented k l) (word_fits (suc k) (get_or block k 0) (fits k)))
-      (λ l. rw (past-complemented k l) (pow_pos 32))
+  pub complemented_fits : ((k : ℕ) → get_or block k 0 < 2 ^ 32) → (k : ℕ) → get_or (complemented block) k 0 < 2 ^ 32
+  complemented_fits fits k =
+      ⊎_elim (λ l. rw (row_complemented k l) (word_fits (suc k) (get_or block k 0) (fits k)))
+      (λ l. rw (past_complemented k l) (pow_pos 32))
       (split_below k (length block))
 
 -- ---- an image
 
 module _ (layout : Layout) (image : List ℕ) where
-  pub length-image : length (complemented_image layout image) ≡ length image
+  pub length_image : length (complemented_image layout image) ≡ length image
   unfolding complemented_image
-  length-image = length-by (row_at layout) image
+  length_image = length_by (row_at layout) image
 
-  pub word-image : (at : ℕ) → at < length image → get_or (complemented_image layout image) at 0 ≡ complemented_in (row_at layout at) (get_or image at 0)
+  pub word_image : (at : ℕ) → at < length image → get_or (complemented_image layout image) at 0 ≡ complemented_in (row_at layout at) (get_or image at 0)
   unfolding complemented_image
-  word-image = word-by (row_at layout) image
+  word_image = word_by (row_at layout) image
 
-  pub image-twice : complemented_image layout (complemented_image layout image) ≡ image
+  pub image_twice : complemented_image layout (complemented_image layout image) ≡ image
   unfolding complemented_image
-  image-twice = twice-by (row_at layout) image
+  image_twice = twice_by (row_at layout) image

@@ -21,8 +21,8 @@ use Rattle.shape.proofs.Sizes.{rows_least}
 use Rattle.layout.specs.declared.Layout.{Layout}
 use Rattle.layout.specs.Layout.{shape_of, rows_of, group_words, row_at}
 use Rattle.layout.specs.Refusal.{image_refusal}
-use Rattle.layout.proofs.Index.{row-in-group}
-use Rattle.layout.proofs.Ladder.{geometry, image-layout, image-exact}
+use Rattle.layout.proofs.Index.{row_in_group}
+use Rattle.layout.proofs.Ladder.{geometry, image_layout, image_exact}
 use Rattle.stored.proofs.Forms.{word_kept}
 use Rattle.stored.specs.Stored.{ones, mask, complemented_in, complemented, complemented_image, ComplementsImage}
 
@@ -48,12 +48,12 @@ two_over (a ∷ b ∷ rest) x y = ap (λ (l : List ℕ). x ∷ y ∷ l) (sym (re
 -- ---- a run of words
 
 module _ (image : List ℕ) (at : ℕ) where
-  abbrev pub flippedRun : ℕ → List ℕ
-  flippedRun k = stores image (λ k. at + k) (λ k. bit_xor (get_or image (at + k) 0) ones) k
+  abbrev pub flipped_run : ℕ → List ℕ
+  flipped_run k = stores image (λ k. at + k) (λ k. bit_xor (get_or image (at + k) 0) ones) k
 
   -- the next word of the run is as it was
-  pub next-kept : (k : ℕ) → get_or (flippedRun k) (at + k) 0 ≡ get_or image (at + k) 0
-  next-kept k = stores_miss image (λ k. at + k) _ (at + k) k (λ j h e. omega arith)
+  pub next_kept : (k : ℕ) → get_or (flipped_run k) (at + k) 0 ≡ get_or image (at + k) 0
+  next_kept k = stores_miss image (λ k. at + k) _ (at + k) k (λ j h e. omega arith)
 
 -- ---- the groups of an image
 
@@ -66,29 +66,29 @@ module _ (image : List ℕ) (first group : ℕ) where
   word i = bit_xor (get_or image i 0) (mask_in first group i)
 
   -- the image with the words below a place done
-  abbrev pub doneBelow : ℕ → List ℕ
-  doneBelow n = stores image (λ i. i) word n
+  abbrev pub done_below : ℕ → List ℕ
+  done_below n = stores image (λ i. i) word n
 
-  not_yet : (n i : ℕ) → n ≤ i → get_or (doneBelow n) i 0 ≡ get_or image i 0
+  not_yet : (n i : ℕ) → n ≤ i → get_or (done_below n) i 0 ≡ get_or image i 0
   not_yet n i h = stores_miss image (λ i. i) word i n (λ j l e. omega arith)
 
   -- the first words of a group
-  run_more : (at : ℕ) → ((k : ℕ) → k < first → (at + k) % group ≡ k) → (n : ℕ) → n ≤ first → flippedRun (doneBelow at) at n ≡ doneBelow (at + n)
+  run_more : (at : ℕ) → ((k : ℕ) → k < first → (at + k) % group ≡ k) → (n : ℕ) → n ≤ first → flipped_run (done_below at) at n ≡ done_below (at + n)
   unfolding stores
-  run_more at in_group zero h = let e : at ≡ at + 0 = omega arith in ap doneBelow e
+  run_more at in_group zero h = let e : at ≡ at + 0 = omega arith in ap done_below e
   run_more at in_group (suc n) h =
       let e : at + suc n ≡ suc (at + n) = omega arith in
       rw (e, run_more at in_group n (omega arith), in_group n (omega arith), lt-ltb n first (omega arith), not_yet at (at + n) (omega arith))
 
   -- and the others, which stay
-  rest_more : (at : ℕ) → ((k : ℕ) → k < group → (at + k) % group ≡ k) → first ≤ group → doneBelow (at + first) ≡ doneBelow (at + group)
+  rest_more : (at : ℕ) → ((k : ℕ) → k < group → (at + k) % group ≡ k) → first ≤ group → done_below (at + first) ≡ done_below (at + group)
   rest_more at in_group fits =
       stores_more image (λ i. i) word (at + first) (at + group) (omega arith)
       (λ i l h.
       let k : ℕ = i - at in
       let e : at + k ≡ i = omega arith in
       let r : i % group ≡ k = ap (λ (n : ℕ). n % group) (sym e) ∙ in_group k (omega arith) in
-      rw (r, le-ltb k first (omega arith), xor_zero_r) (rw (← not_yet i i (omega arith)) (set-get_or (doneBelow i) i 0)))
+      rw (r, le-ltb k first (omega arith), xor_zero_r) (rw (← not_yet i i (omega arith)) (set-get_or (done_below i) i 0)))
 
   -- what is done after some groups
   pub record Going (after : List ℕ) (at : ℕ) : Type 0 where
@@ -99,7 +99,7 @@ module _ (image : List ℕ) (first group : ℕ) where
     pub passed : ℕ
     pub place : at ≡ passed * group
     pub within : passed ≤ groups
-    pub stored : after ≡ doneBelow at
+    pub stored : after ≡ done_below at
 
   module _ {after : List ℕ} {at : ℕ} (g : Going after at) (more : at < length image) where
     -- there is one more group
@@ -109,13 +109,13 @@ module _ (image : List ℕ) (first group : ℕ) where
       | no l ↦ absurd (let m = mul-le-mul_right group (let e : g.groups ≤ g.passed = omega arith in e) in omega (arith, m, g.size, g.place))
     ]
 
-    pub group-inside : at + group ≤ length image
-    group-inside =
+    pub group_inside : at + group ≤ length image
+    group_inside =
         let m = mul-le-mul_right group (let e : suc g.passed ≤ g.groups = one_left in e) in
         omega (arith, m, g.size, g.place, add-mul g.passed 1 group, one-mul group)
 
-    pub group-done : {left : List ℕ} → left ≡ flippedRun after at first → Going left (at + group)
-    group-done e =
+    pub group_done : {left : List ℕ} → left ≡ flipped_run after at first → Going left (at + group)
+    group_done e =
         let in_group : (k : ℕ) → k < group → (at + k) % group ≡ k = λ k h. rw g.place (digits_mod g.passed h) in
         record {
           groups = g.groups;
@@ -133,7 +133,7 @@ module _ (image : List ℕ) (first group : ℕ) where
   all_done {after} {at} g h =
       let e : at ≡ length image =
       let m = mul-le-mul_right group g.within in omega (arith, m, g.size, g.place) in
-      g.stored ∙ ap doneBelow e
+      g.stored ∙ ap done_below e
       ∙ list_is (length image) _ word (length_stores image (λ i. i) word (length image))
       (λ j l. stores_hit image (λ i. i) word j (length image) (λ k b q. q) l l)
 
@@ -149,7 +149,7 @@ module _ (layout : Layout) (first : 1 ≤ layout.s) where
       let j : ℕ = at % group_words layout in
       let some : 1 ≤ group_words layout = let m = mul-le-mul_right s (let e : 1 ≤ rows = omega arith in e) in omega (arith, m, one-mul s) in
       let row : at / s % rows ≡ j / s =
-      ap (λ (n : ℕ). n / s % rows) (sym (div-add-mod' at (group_words layout))) ∙ row-in-group rows s first q j (mod-lt at some) in
+      ap (λ (n : ℕ). n / s % rows) (sym (div-add-mod' at (group_words layout))) ∙ row_in_group rows s first q j (mod-lt at some) in
       rw row
       (elim (dec_lt j (2 * s)) [
         | yes l ↦ rw (lt-ltb j (2 * s) l, le-leb (suc (j / s)) 2 ((div-lt_iff_lt-mul first).1 l))
@@ -162,7 +162,7 @@ module _ (layout : Layout) (first : 1 ≤ layout.s) where
 module _ (image : List ℕ) (layout : Layout) where
   module _ (passed : image_refusal (length image) layout ≡ 0) where
     s_first : 1 ≤ layout.s
-    s_first = (geometry layout (image-layout layout (length image) passed)).s_first
+    s_first = (geometry layout (image_layout layout (length image) passed)).s_first
 
     -- before the first group
     pub none_done : Going image (2 * layout.s) (group_words layout) image 0
@@ -173,7 +173,7 @@ module _ (image : List ℕ) (layout : Layout) where
         record {
           groups = layout.g;
           size =
-              image-exact layout (length image) passed
+              image_exact layout (length image) passed
               ∙ omega (arith, mul_comm (rows_of layout) (layout.g * s), mul_right_comm layout.g s (rows_of layout), mul_assoc layout.g (rows_of layout) s);
           some = omega (arith, tall, s_first);
           fits = tall;
@@ -184,12 +184,12 @@ module _ (image : List ℕ) (layout : Layout) where
         }
 
     -- after the last
-    pub image-done : {after : List ℕ} {at : ℕ} → Going image (2 * layout.s) (group_words layout) after at → length image ≤ at
+    pub image_done : {after : List ℕ} {at : ℕ} → Going image (2 * layout.s) (group_words layout) after at → length image ≤ at
         → ComplementsImage image layout after
     unfolding complemented_image
-    image-done g h =
+    image_done g h =
         all_done image (2 * layout.s) (group_words layout) g h
         ∙ rw passed (list_of_same (length image) _ _ (λ j l. ap (bit_xor (get_or image j 0)) (mask_at layout s_first j)))
 
-  pub image-stays : (number : ℕ) → number ≡ image_refusal (length image) layout → (number ≡ 0 → ⊥) → ComplementsImage image layout image
-  image-stays number e ne = rw (← e) (sym (refused_kept number _ image ne))
+  pub image_stays : (number : ℕ) → number ≡ image_refusal (length image) layout → (number ≡ 0 → ⊥) → ComplementsImage image layout image
+  image_stays number e ne = rw (← e) (sym (refused_kept number _ image ne))

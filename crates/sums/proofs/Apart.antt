@@ -17,7 +17,7 @@ use Rattle.shape.specs.declared.Shape.TheVariants.{One, Two}
 use Rattle.shape.specs.Shape.{before, rows}
 use Rattle.sums.specs.Sums.{lying, sums_of}
 use Rattle.sums.specs.Inner.{xor_rows, high_digits}
-use Rattle.sums.proofs.RowSums.{Made, none, one, upto, same, ◌xor◌, agree?, agreed, sums-are}
+use Rattle.sums.proofs.RowSums.{Made, none, one, upto, same, ◌xor◌, agree?, agreed, sums_are}
 use Rattle.sums.proofs.Lying.{placed, placed_fits, placed_lies}
 
 -- the rows r + 1 of the first q turns; rows 1 to 4 q + 3, as turn q has them before its fourth row; and these of the first q turns together
@@ -79,9 +79,9 @@ few_turns One = lit≤ tt
 few_turns Two = lit≤ tt
 
 module _ {words : List ℕ} {at s : ℕ} where
-  pub none-turned : Turned words at s 0 at 0 0 0 0 0 (replicate 18 0)
+  pub none_turned : Turned words at s 0 at 0 0 0 0 0 (replicate 18 0)
   unfolding column stair stores
-  none-turned = record { place = omega (arith, zero-mul s); c00 = refl; c01 = refl; c10 = refl; c11 = refl; second = refl; stored = refl }
+  none_turned = record { place = omega (arith, zero-mul s); c00 = refl; c01 = refl; c10 = refl; c11 = refl; second = refl; stored = refl }
 
   pub turn_more : {q i e00 e01 e10 e11 d2 : ℕ} {upto : List ℕ} → Turned words at s q i e00 e01 e10 e11 d2 upto
       → let a01 : ℕ = bit_xor e01 (get_or words i 0) in
@@ -102,21 +102,21 @@ module _ {words : List ℕ} {at s : ℕ} where
       put r j e p = ap₂ (λ (a k : ℕ). bit_xor a (get_or words k 0)) e (omega (arith, add-mul (4 * q) r s, t.place))
 
   -- the words after the last turn are the sums, by computing
-  pub apart-sums : ((k : ℕ) → get_or words k 0 < 2 ^ 32) → (shape : Shape) {q i e00 e01 e10 e11 d2 : ℕ} {upto high : List ℕ} → q ≡ rows shape / 4
+  pub apart_sums : ((k : ℕ) → get_or words k 0 < 2 ^ 32) → (shape : Shape) {q i e00 e01 e10 e11 d2 : ℕ} {upto high : List ℕ} → q ≡ rows shape / 4
       → Turned words at s q i e00 e01 e10 e11 d2 upto → high ≡ high_digits shape upto
       → bit_xor e01 e11 ∷ bit_xor e10 e11 ∷ d2 ∷ get_or high 0 0 ∷ get_or high 1 0 ∷ get_or high 2 0 ∷ get_or high 3 0
       ∷ bit_xor (bit_xor (bit_xor e01 e11) e00) e10 ∷ []
       ≡ sums_of shape (lying shape words at s)
   unfolding agree? bit stores columns to stairs
-  apart-sums fits One last t high =
+  apart_sums fits One last t high =
       rw (t.c00, t.c01, t.c10, t.c11, t.second, high, t.stored, last)
-      (sums-are One _ _ (placed_fits words at s fits) (placed_lies One words at s) (agreed (bit 0) (columns 0 4 xor columns 2 4) refl)
+      (sums_are One _ _ (placed_fits words at s fits) (placed_lies One words at s) (agreed (bit 0) (columns 0 4 xor columns 2 4) refl)
       (agreed (bit 1) (columns 1 4 xor columns 2 4) refl) (agreed (bit 2) (stairs 4) refl)
       (agreed (bit 3) (to 1 xor to 3) refl) (agreed (bit 4) none refl) (agreed (bit 5) none refl)
       (agreed (bit 6) none refl) (agreed (λ p. true) (columns 0 4 xor columns 2 4 xor columns 3 4 xor columns 1 4) refl))
-  apart-sums fits Two last t high =
+  apart_sums fits Two last t high =
       rw (t.c00, t.c01, t.c10, t.c11, t.second, high, t.stored, last)
-      (sums-are Two _ _ (placed_fits words at s fits) (placed_lies Two words at s) (agreed (bit 0) (columns 0 18 xor columns 2 18) refl)
+      (sums_are Two _ _ (placed_fits words at s fits) (placed_lies Two words at s) (agreed (bit 0) (columns 0 18 xor columns 2 18) refl)
       (agreed (bit 1) (columns 1 18 xor columns 2 18) refl) (agreed (bit 2) (stairs 18) refl)
       (agreed (bit 3) (to 1 xor to 5 xor to 9 xor to 13 xor (to 3 xor to 11 xor (to 7 xor to 15))) refl)
       (agreed (bit 4) (to 3 xor to 11 xor (to 7 xor to 15)) refl) (agreed (bit 5) (to 7 xor to 15) refl) (agreed (bit 6) (to 15 xor to 17) refl)
@@ -133,6 +133,6 @@ module _ (s q : ℕ) where
       low One h = omega arith
       low Two h = omega arith
 
-  pub before-few : (shape : Shape) → before shape * s ≤ 72 * s
-  before-few One = mul-le-mul_right s (lit≤ tt)
-  before-few Two = mul-le-mul_right s (lit≤ tt)
+  pub before_few : (shape : Shape) → before shape * s ≤ 72 * s
+  before_few One = mul-le-mul_right s (lit≤ tt)
+  before_few Two = mul-le-mul_right s (lit≤ tt)

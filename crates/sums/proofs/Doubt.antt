@@ -31,15 +31,15 @@ module _ (i : ℕ) (digits : List ℕ) where
   abbrev low : ℕ → ℕ
   low k = number k (λ j. bit i (get_or digits j 0))
 
-  or-zero : (n k : ℕ) (b : Bool) → not (eqb n 0) || b ≡ not (eqb (n + pick b (2 ^ k)) 0)
-  or-zero zero k true = sym (ap not (ne_eqb (0 + 2 ^ k) 0 (λ e. let p = pow_pos k in omega arith)))
-  or-zero zero k false = refl
-  or-zero (suc n) k b = rw (eqb-suc-zero n, ne_eqb (suc n + pick b (2 ^ k)) 0 (λ e. omega arith))
+  or_zero : (n k : ℕ) (b : Bool) → not (eqb n 0) || b ≡ not (eqb (n + pick b (2 ^ k)) 0)
+  or_zero zero k true = sym (ap not (ne_eqb (0 + 2 ^ k) 0 (λ e. let p = pow_pos k in omega arith)))
+  or_zero zero k false = refl
+  or_zero (suc n) k b = rw (eqb-suc-zero n, ne_eqb (suc n + pick b (2 ^ k)) 0 (λ e. omega arith))
 
-  pub bit-any : (k : ℕ) → bit i (any_of k digits) ≡ not (eqb (low k) 0)
+  pub bit_any : (k : ℕ) → bit i (any_of k digits) ≡ not (eqb (low k) 0)
   unfolding any_of number
-  bit-any zero = bit_zero i
-  bit-any (suc k) = rw (bit_of_or i, bit-any k) (or-zero (low k) k (bit i (get_or digits k 0)))
+  bit_any zero = bit_zero i
+  bit_any (suc k) = rw (bit_of_or i, bit_any k) (or_zero (low k) k (bit i (get_or digits k 0)))
 
 -- ---- the sums
 
@@ -51,35 +51,35 @@ module _ (shape : Shape) (block : List ℕ) where
   unfolding sums_of list_of
   word_in = get_or_list_of 8 _
 
-  pub digit-in : (k i : ℕ) → k < 7 → i < 32 → bit i (get_or sums k 0) ≡ bit k (sum (before shape) (lane i block))
-  digit-in k i h l = rw (word_in k (omega arith), lt-ltb k 7 h) (bit_number 32 i _ l)
+  pub digit_in : (k i : ℕ) → k < 7 → i < 32 → bit i (get_or sums k 0) ≡ bit k (sum (before shape) (lane i block))
+  digit_in k i h l = rw (word_in k (omega arith), lt-ltb k 7 h) (bit_number 32 i _ l)
 
-  pub odd-in : (i : ℕ) → i < 32 → odd_in sums i ≡ odd (rows shape) (lane i block)
+  pub odd_in_lem : (i : ℕ) → i < 32 → odd_in sums i ≡ odd (rows shape) (lane i block)
   unfolding sums_of
-  odd-in i l = bit_number 32 i (λ i. odd (rows shape) (lane i block)) l
+  odd_in_lem i l = bit_number 32 i (λ i. odd (rows shape) (lane i block)) l
 
-  pub sum-in : (i : ℕ) → i < 32 → sum_in sums i ≡ sum (before shape) (lane i block)
-  sum-in i l =
-      sym (number_bits 7 (sum (before shape) (lane i block)) _ (sum_lt 7 (before shape) (lane i block) (before_small shape)) (λ k h. sym (digit-in k i h l)))
+  pub sum_in_lem : (i : ℕ) → i < 32 → sum_in sums i ≡ sum (before shape) (lane i block)
+  sum_in_lem i l =
+      sym (number_bits 7 (sum (before shape) (lane i block)) _ (sum_lt 7 (before shape) (lane i block) (before_small shape)) (λ k h. sym (digit_in k i h l)))
 
   pub word_lt : (k : ℕ) → k < 8 → get_or sums k 0 < 2 ^ 32
   word_lt k h = rw (word_in k h) (number_lt 32 _)
 
-  pub any-lt : (k : ℕ) → k ≤ 8 → any_of k sums < 2 ^ 32
+  pub any_lt : (k : ℕ) → k ≤ 8 → any_of k sums < 2 ^ 32
   unfolding any_of
-  any-lt zero h = pow_pos 32
-  any-lt (suc k) h = or_lt 32 (any_of k sums) (get_or sums k 0) (any-lt k (omega arith)) (word_lt k (omega arith))
+  any_lt zero h = pow_pos 32
+  any_lt (suc k) h = or_lt 32 (any_of k sums) (get_or sums k 0) (any_lt k (omega arith)) (word_lt k (omega arith))
 
-  pub some-doubt : any_of 8 sums ≡ doubtful shape block
+  pub some_doubt : any_of 8 sums ≡ doubtful shape block
   unfolding doubtful any_of
-  some-doubt = number_bits 32 (any_of 8 sums) _ (any-lt 8 (omega arith)) (λ i l. rw (bit_of_or i (any_of 7 sums), bit-any i sums 7, sum-in i l, odd-in i l))
+  some_doubt = number_bits 32 (any_of 8 sums) _ (any_lt 8 (omega arith)) (λ i l. rw (bit_of_or i (any_of 7 sums), bit_any i sums 7, sum_in_lem i l, odd_in_lem i l))
 
 -- eight words that are the sums, and kept, are what a look is to find
 pub looks : (shape : Shape) (words : List ℕ) (at s : ℕ) (lent after : List ℕ) (found : ℕ) → at + before shape * s < length words
     → (eight : List ℕ) → eight ≡ sums_of shape (complemented (lying shape words at s)) → Kept eight found lent after → Looks shape words at s lent found after
 looks shape words at s lent after found there eight are k =
     record {
-      there = λ h. (k.0 ∙ ap (any_of 8) are ∙ some-doubt shape (complemented (lying shape words at s)), k.1 ∙ ap (if_zero found lent) are);
+      there = λ h. (k.0 ∙ ap (any_of 8) are ∙ some_doubt shape (complemented (lying shape words at s)), k.1 ∙ ap (if_zero found lent) are);
       missing = λ no. absurd (no there);
     }
 

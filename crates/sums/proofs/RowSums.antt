@@ -123,16 +123,16 @@ module _ (i : ℕ) (w : ℕ → ℕ) where
   f p = bit i (w p)
 
   -- bit i of the word for digit k is digit k of lane i's sum
-  pub bit-digit : (k m : ℕ) → bit i (xor_rows (bit k) m w) ≡ bit k (sum m f)
+  pub bit_digit : (k m : ℕ) → bit i (xor_rows (bit k) m w) ≡ bit k (sum m f)
   unfolding xor_rows sum
-  bit-digit k zero = bit_zero i ∙ sym (bit_zero k)
-  bit-digit k (suc m) = rw (bit_of_xor i, bit_of_xor k, pick_bit i, pick_bit k, bit-digit k m, and_comm (bit k (suc m)))
+  bit_digit k zero = bit_zero i ∙ sym (bit_zero k)
+  bit_digit k (suc m) = rw (bit_of_xor i, bit_of_xor k, pick_bit i, pick_bit k, bit_digit k m, and_comm (bit k (suc m)))
 
   -- bit i of the word of all rows is lane i's parity
-  pub bit-parity : (n : ℕ) → bit i (xor_rows (λ p. true) n w) ≡ odd n f
+  pub bit_parity : (n : ℕ) → bit i (xor_rows (λ p. true) n w) ≡ odd n f
   unfolding xor_rows
-  bit-parity zero = unfold count in (bit_zero i ∙ sym (bit_zero 0))
-  bit-parity (suc n) = rw (bit_of_xor i, bit-parity n, odd_suc n f)
+  bit_parity zero = unfold count in (bit_zero i ∙ sym (bit_zero 0))
+  bit_parity (suc n) = rw (bit_of_xor i, bit_parity n, odd_suc n f)
 
 pub xor_rows_lt : (t : ℕ → Bool) (n : ℕ) (w : ℕ → ℕ) → ((p : ℕ) → w p < 2 ^ 32) → xor_rows t n w < 2 ^ 32
 unfolding xor_rows
@@ -154,22 +154,22 @@ module _ (shape : Shape) (block : List ℕ) (w : ℕ → ℕ) (fits : (p : ℕ) 
   lane_lies : (i j : ℕ) → j < rows shape → bit i (w (suc j)) ≡ lane i block (suc j)
   lane_lies i j h = ap (bit i) (lies (suc j) (omega arith) h)
 
-  pub digit-is : (k : ℕ) → xor_rows (bit k) (before shape) w ≡ word (λ i. bit k (sum (before shape) (lane i block)))
-  digit-is k =
+  pub digit_is : (k : ℕ) → xor_rows (bit k) (before shape) w ≡ word (λ i. bit k (sum (before shape) (lane i block)))
+  digit_is k =
       number_bits 32 _ _ (xor_rows_lt (bit k) (before shape) w fits)
-      (λ i h. bit-digit i w k (before shape) ∙ ap (bit k) (sum_same (before shape) _ (lane i block) (λ j l. lane_lies i j (omega arith))))
+      (λ i h. bit_digit i w k (before shape) ∙ ap (bit k) (sum_same (before shape) _ (lane i block) (λ j l. lane_lies i j (omega arith))))
 
-  pub parity-is : xor_rows (λ p. true) (rows shape) w ≡ word (λ i. odd (rows shape) (lane i block))
-  parity-is =
+  pub parity_is : xor_rows (λ p. true) (rows shape) w ≡ word (λ i. odd (rows shape) (lane i block))
+  parity_is =
       number_bits 32 _ _ (xor_rows_lt (λ p. true) (rows shape) w fits)
-      (λ i h. bit-parity i w (rows shape) ∙ ap (bit 0) (count_same (rows shape) _ (lane i block) (lane_lies i)))
+      (λ i h. bit_parity i w (rows shape) ∙ ap (bit 0) (count_same (rows shape) _ (lane i block) (lane_lies i)))
 
   -- eight words that are the exclusive or of the rows that each digit and the parity want are the block's sums
-  pub sums-are : {a b c d e f g h : ℕ} → a ≡ xor_rows (bit 0) (before shape) w → b ≡ xor_rows (bit 1) (before shape) w
+  pub sums_are : {a b c d e f g h : ℕ} → a ≡ xor_rows (bit 0) (before shape) w → b ≡ xor_rows (bit 1) (before shape) w
       → c ≡ xor_rows (bit 2) (before shape) w → d ≡ xor_rows (bit 3) (before shape) w → e ≡ xor_rows (bit 4) (before shape) w
       → f ≡ xor_rows (bit 5) (before shape) w → g ≡ xor_rows (bit 6) (before shape) w → h ≡ xor_rows (λ p. true) (rows shape) w
       → a ∷ b ∷ c ∷ d ∷ e ∷ f ∷ g ∷ h ∷ [] ≡ sums_of shape block
   unfolding sums_of
-  sums-are ea eb ec ed ee ef eg eh =
-      same_eight (ea ∙ digit-is 0) (eb ∙ digit-is 1) (ec ∙ digit-is 2) (ed ∙ digit-is 3) (ee ∙ digit-is 4) (ef ∙ digit-is 5) (eg ∙ digit-is 6)
-      (eh ∙ parity-is)
+  sums_are ea eb ec ed ee ef eg eh =
+      same_eight (ea ∙ digit_is 0) (eb ∙ digit_is 1) (ec ∙ digit_is 2) (ed ∙ digit_is 3) (ee ∙ digit_is 4) (ef ∙ digit_is 5) (eg ∙ digit_is 6)
+      (eh ∙ parity_is)

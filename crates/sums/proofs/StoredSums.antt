@@ -15,7 +15,7 @@ use Rattle.shape.specs.declared.Shape.{Shape}
 use Rattle.shape.specs.declared.Shape.TheVariants.{One, Two}
 use Rattle.shape.specs.Shape.{before, rows}
 use Rattle.stored.specs.Stored.{ones, mask, complemented}
-use Rattle.stored.proofs.Forms.{row-complemented}
+use Rattle.stored.proofs.Forms.{row_complemented}
 use Rattle.sums.specs.Words.{lane, number, word}
 use Rattle.sums.specs.Sums.{sums_of}
 use Rattle.sums.proofs.WordBits.{number_lt, number_bits, number_same, bit_number}
@@ -53,20 +53,20 @@ bit_mask i h p = by (leb p 2)
 -- ---- a lane of the code's block, from that of the stored one
 
 module _ (shape : Shape) (block : List ℕ) (long : rows shape ≤ length block) where
-  pub lane-masked : (i j : ℕ) → j < rows shape → lane i (complemented block) (suc j) ≡ lane i block (suc j) ⊕ bit i (mask (suc j))
-  lane-masked i j l = ap (bit i) (row-complemented block j (omega arith)) ∙ bit_of_xor i (get_or block j 0) (mask (suc j))
+  pub lane_masked : (i j : ℕ) → j < rows shape → lane i (complemented block) (suc j) ≡ lane i block (suc j) ⊕ bit i (mask (suc j))
+  lane_masked i j l = ap (bit i) (row_complemented block j (omega arith)) ∙ bit_of_xor i (get_or block j 0) (mask (suc j))
 
-  pub lane-complemented : (i : ℕ) → i < 32 → (j : ℕ) → j < rows shape → lane i (complemented block) (suc j) ≡ diff (lane i block) pair (suc j)
-  lane-complemented i h j l = lane-masked i j l ∙ ap (λ (b : Bool). lane i block (suc j) ⊕ b) (bit_mask i h (suc j))
+  pub lane_complemented : (i : ℕ) → i < 32 → (j : ℕ) → j < rows shape → lane i (complemented block) (suc j) ≡ diff (lane i block) pair (suc j)
+  lane_complemented i h j l = lane_masked i j l ∙ ap (λ (b : Bool). lane i block (suc j) ⊕ b) (bit_mask i h (suc j))
 
-  pub sum-complemented : (i : ℕ) → i < 32 → sum (before shape) (lane i (complemented block)) ≡ bit_xor (sum (before shape) (lane i block)) 3
-  sum-complemented i h =
-      sum_same (before shape) _ (diff (lane i block) pair) (λ j l. lane-complemented i h j (omega arith))
+  pub sum_complemented : (i : ℕ) → i < 32 → sum (before shape) (lane i (complemented block)) ≡ bit_xor (sum (before shape) (lane i block)) 3
+  sum_complemented i h =
+      sum_same (before shape) _ (diff (lane i block) pair) (λ j l. lane_complemented i h j (omega arith))
       ∙ sum_diff (before shape) (lane i block) pair ∙ ap (bit_xor (sum (before shape) (lane i block))) (pair_sum shape)
 
-  pub odd-complemented : (i : ℕ) → i < 32 → odd (rows shape) (lane i (complemented block)) ≡ odd (rows shape) (lane i block)
-  odd-complemented i h =
-      ap (bit 0) (count_same (rows shape) _ (diff (lane i block) pair) (lane-complemented i h))
+  pub odd_complemented : (i : ℕ) → i < 32 → odd (rows shape) (lane i (complemented block)) ≡ odd (rows shape) (lane i block)
+  odd_complemented i h =
+      ap (bit 0) (count_same (rows shape) _ (diff (lane i block) pair) (lane_complemented i h))
       ∙ odd_diff (rows shape) (lane i block) pair ∙ ap (λ (b : Bool). odd (rows shape) (lane i block) ⊕ b) (pair_even shape)
       ∙ ⊕-zero (odd (rows shape) (lane i block))
 
@@ -75,25 +75,25 @@ module _ (shape : Shape) (block : List ℕ) (long : rows shape ≤ length block)
   abbrev digit : ℕ → List ℕ → ℕ
   digit k block = word (λ i. bit k (sum (before shape) (lane i block)))
 
-  digit-bit : (k i : ℕ) → i < 32 → bit k (sum (before shape) (lane i (complemented block))) ≡ bit k (sum (before shape) (lane i block)) ⊕ bit k 3
-  digit-bit k i h = ap (bit k) (sum-complemented i h) ∙ bit_of_xor k (sum (before shape) (lane i block)) 3
+  digit_bit : (k i : ℕ) → i < 32 → bit k (sum (before shape) (lane i (complemented block))) ≡ bit k (sum (before shape) (lane i block)) ⊕ bit k 3
+  digit_bit k i h = ap (bit k) (sum_complemented i h) ∙ bit_of_xor k (sum (before shape) (lane i block)) 3
 
   turned : (k : ℕ) → bit k 3 ≡ true → bit_xor (digit k block) ones ≡ digit k (complemented block)
   turned k e =
       number_bits 32 _ _ (xor_lt 32 (digit k block) ones (number_lt 32 _) (lit< tt))
       (λ i h.
-      bit_of_xor i (digit k block) ones ∙ ap₂ ◌⊕◌ (bit_number 32 i _ h) (bit_ones i h ∙ sym e) ∙ sym (digit-bit k i h))
+      bit_of_xor i (digit k block) ones ∙ ap₂ ◌⊕◌ (bit_number 32 i _ h) (bit_ones i h ∙ sym e) ∙ sym (digit_bit k i h))
 
   kept : (k : ℕ) → bit k 3 ≡ false → digit k block ≡ digit k (complemented block)
   kept k e =
       number_same 32 _ _
-      (λ i h. sym (digit-bit k i h ∙ ap (λ (b : Bool). bit k (sum (before shape) (lane i block)) ⊕ b) e ∙ ⊕-zero (bit k (sum (before shape) (lane i block)))))
+      (λ i h. sym (digit_bit k i h ∙ ap (λ (b : Bool). bit k (sum (before shape) (lane i block)) ⊕ b) e ∙ ⊕-zero (bit k (sum (before shape) (lane i block)))))
 
-  pub code-sums : {a b c d e f g h : ℕ} → a ∷ b ∷ c ∷ d ∷ e ∷ f ∷ g ∷ h ∷ [] ≡ sums_of shape block
+  pub code_sums : {a b c d e f g h : ℕ} → a ∷ b ∷ c ∷ d ∷ e ∷ f ∷ g ∷ h ∷ [] ≡ sums_of shape block
       → bit_xor a ones ∷ bit_xor b ones ∷ c ∷ d ∷ e ∷ f ∷ g ∷ h ∷ [] ≡ sums_of shape (complemented block)
   unfolding sums_of bit
-  code-sums {a} {b} {c} {d} {e} {f} {g} {h} are =
+  code_sums {a} {b} {c} {d} {e} {f} {g} {h} are =
       let at : (k : ℕ) → get_or (a ∷ b ∷ c ∷ d ∷ e ∷ f ∷ g ∷ h ∷ []) k 0 ≡ get_or (sums_of shape block) k 0 = λ k. ap (λ (l : List ℕ). get_or l k 0) are in
       same_eight (ap (λ (w : ℕ). bit_xor w ones) (at 0) ∙ turned 0 refl) (ap (λ (w : ℕ). bit_xor w ones) (at 1) ∙ turned 1 refl) (at 2 ∙ kept 2 refl)
       (at 3 ∙ kept 3 refl) (at 4 ∙ kept 4 refl) (at 5 ∙ kept 5 refl) (at 6 ∙ kept 6 refl)
-      (at 7 ∙ number_same 32 _ _ (λ i l. sym (odd-complemented i l)))
+      (at 7 ∙ number_same 32 _ _ (λ i l. sym (odd_complemented i l)))

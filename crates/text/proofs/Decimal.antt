@@ -122,8 +122,8 @@ module _ (n rest first : ℕ) (digits : List ℕ) where
 
   module _ (e : decimal n ≡ decimal rest ++ drop first digits) (some : 0 < first) (h : first ≤ length digits) where
     -- the last of more digits, and the others are left
-    pub put-more : 10 ≤ rest → decimal n ≡ decimal (rest / 10) ++ drop (first - 1) (set digits (first - 1) (digit (rest % 10)))
-    put-more l =
+    pub put_more : 10 ≤ rest → decimal n ≡ decimal (rest / 10) ++ drop (first - 1) (set digits (first - 1) (digit (rest % 10)))
+    put_more l =
         e
         ∙ ap (λ (ds : List ℕ). ds ++ drop first digits) (decimal_more rest l)
         ∙ append_assoc (decimal (rest / 10)) (digit (rest % 10) ∷ []) (drop first digits)

@@ -10,7 +10,7 @@ use lib.ListN.{length, take, length-append}
 use Rattle.text.specs.Text.{ascii, decimal, named}
 use Rattle.text.specs.Page.{Page, page, over, written, written_all, end_to_end}
 use Rattle.text.proofs.Decimal.{decimal_short}
-use Rattle.text.proofs.Pages.{over-front, length_over, written_fits}
+use Rattle.text.proofs.Pages.{over_front, length_over, written_fits}
 
 -- the bytes of a buffer up to the next place are a text of at most so many bytes
 pub record Line (room most : ℕ) (text bytes : List ℕ) (next : ℕ) : Type 0 where
@@ -36,7 +36,7 @@ with_text {room} {most} {at} {next} {text} {bytes} {after} line part e h =
     record {
       place = omega (arith, line.place, length-append text part);
       front = ap (λ (p : Page). take p.next p.bytes) same
-          ∙ over-front bytes at part (omega arith)
+          ∙ over_front bytes at part (omega arith)
           ∙ ap (λ (l : List ℕ). l ++ part) line.front;
       few = omega (arith, line.few, length-append text part);
       size = size ∙ line.size;
@@ -102,9 +102,9 @@ at_most line most h =
 -- ---- the bytes up to the next place
 
 module _ {room most next : ℕ} {text bytes : List ℕ} (line : Line room most text bytes next) where
-  pub line-count : next ≡ length (take next bytes)
-  line-count = line.place ∙ ap length (sym line.front)
+  pub line_count : next ≡ length (take next bytes)
+  line_count = line.place ∙ ap length (sym line.front)
 
   -- what is written of them is the text
-  pub line-written : {after : Page} (p : Page) → after ≡ written (take next bytes) p → after ≡ written text p
-  line-written p e = e ∙ ap (λ (text : List ℕ). written text p) line.front
+  pub line_written : {after : Page} (p : Page) → after ≡ written (take next bytes) p → after ≡ written text p
+  line_written p e = e ∙ ap (λ (text : List ℕ). written text p) line.front

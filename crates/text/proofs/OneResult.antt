@@ -14,8 +14,8 @@ module _ (out : List ℕ) (at : ℕ) {a b : List ℕ} {m n : ℕ} where
   pub one_text : (text : List ℕ) → PutsText text out at a m → PutsText text out at b n → (a ≡ b) × (m ≡ n)
   one_text text p q = parted (same p q)
 
-  pub one-decimal : (number : ℕ) → PutsDecimal number out at a m → PutsDecimal number out at b n → (a ≡ b) × (m ≡ n)
-  one-decimal number p q = parted (same p q)
+  pub one_decimal : (number : ℕ) → PutsDecimal number out at a m → PutsDecimal number out at b n → (a ≡ b) × (m ≡ n)
+  one_decimal number p q = parted (same p q)
 
-  pub one-named : (text : List ℕ) (number : ℕ) → PutsNamed text number out at a m → PutsNamed text number out at b n → (a ≡ b) × (m ≡ n)
-  one-named text number p q = parted (same p q)
+  pub one_named : (text : List ℕ) (number : ℕ) → PutsNamed text number out at a m → PutsNamed text number out at b n → (a ≡ b) × (m ≡ n)
+  one_named text number p q = parted (same p q)

@@ -16,8 +16,8 @@ module _ (bytes : List ℕ) (at : ℕ) (text : List ℕ) where
   length_front h = length-append (take at bytes) text ∙ ap (λ (k : ℕ). k + length text) (length-take-le at bytes h)
 
   -- up to its end stand what was before it, and the text
-  pub over-front : at ≤ length bytes → take (at + length text) (over bytes at text) ≡ take at bytes ++ text
-  over-front h = take_at (take at bytes ++ text) (drop (at + length text) bytes) (at + length text) (length_front h)
+  pub over_front : at ≤ length bytes → take (at + length text) (over bytes at text) ≡ take at bytes ++ text
+  over_front h = take_at (take at bytes ++ text) (drop (at + length text) bytes) (at + length text) (length_front h)
 
   pub length_over : at + length text ≤ length bytes → length (over bytes at text) ≡ length bytes
   length_over h =
@@ -57,7 +57,7 @@ over_more bytes at line rest h =
     let front = take at bytes ++ line in
     let size = length_front bytes at line h in
     let whole : at + length line + length rest ≡ at + length (line ++ rest) = omega (arith, length-append line rest) in
-    ap₂ (λ (a b : List ℕ). a ++ rest ++ b) (over-front bytes at line h)
+    ap₂ (λ (a b : List ℕ). a ++ rest ++ b) (over_front bytes at line h)
     (ap (λ (n : ℕ). drop (n + length rest) (over bytes at line)) (sym size)
     ∙ drop-append-add front (drop (at + length line) bytes) (length rest)
     ∙ drop-drop (length rest) (at + length line) bytes

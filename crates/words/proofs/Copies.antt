@@ -26,10 +26,10 @@ take_more d asks words n k e h g =
 
 -- a visit is put in two steps: its block, and behind it the words of its verdict
 module _ (words : List ℕ) (at block : ℕ) (verdict : Verdict) where
-  pub visit-put : (seen more : List ℕ) → at + visitWidth ≤ length words → seen ≡ verdict_words verdict
+  pub visit_put : (seen more : List ℕ) → at + visitWidth ≤ length words → seen ≡ verdict_words verdict
       → more ≡ paste (set words at block) (at + 1) seen verdictWidth
       → more ≡ withVisit words at block verdict
-  visit-put seen more h s e =
+  visit_put seen more h s e =
       let inside : at < length words = omega arith in
       let behind : at < at + 1 + verdictWidth = omega arith in
       let width : at + 1 + verdictWidth ≡ at + visitWidth = omega arith in

@@ -1,6 +1,6 @@
 -- `inspect::main` meets its contract: the report ends within its array. Assumes nothing.
 use borrow.Author.Rules.{rules}
-use Rattle.report.proofs.Reported.{report-count, report-inside}
+use Rattle.report.proofs.Reported.{report_count, report_inside}
 use Rattle.inspect.proofs.main.Statement.{statement}
 use Rattle.inspect.proofs.main.Tie as tie
 
@@ -20,10 +20,10 @@ inspect-requires : tie.Need-inspect-requires
 inspect-requires c κs = search rules
 
 array-share-prefix-out : tie.Need-array-share-prefix-out
-array-share-prefix-out c = report-inside c.inspect.ensures
+array-share-prefix-out c = report_inside c.inspect.ensures
 
 slice-aggregate-write-all : tie.Need-slice-aggregate-write-all
-slice-aggregate-write-all c = report-count c.before.inspect.ensures
+slice-aggregate-write-all c = report_count c.before.inspect.ensures
 
 write-all-requires : tie.Need-write-all-requires
 write-all-requires c κs = search rules

@@ -5,11 +5,11 @@ use native.Mathlib.Omega.{arith}
 use lib.ListN.{length}
 use Rattle.ground.proofs.Stores.{length_stores}
 use Rattle.layout.specs.Refusal.{image_refusal}
-use Rattle.stored.proofs.Groups.{none_done, group-done, group-inside, image-done, image-stays}
+use Rattle.stored.proofs.Groups.{none_done, group_done, group_inside, image_done, image_stays}
 use Rattle.stored.proofs.complement_image.Goals as goal
 
 pub returns-then-check_image-ne0 : goal.returns-then-check_image-ne0
-returns-then-check_image-ne0 c = image-stays _ _ _ c.check_image.ensures c.if-check_image-ne0.true
+returns-then-check_image-ne0 c = image_stays _ _ _ c.check_image.ensures c.if-check_image-ne0.true
 
 pub loop-at-init : goal.loop-at-init
 loop-at-init c =
@@ -21,12 +21,12 @@ loop-at-init c =
 pub complement_words-requires : goal.complement_words-requires
 complement_words-requires c =
     let l = c.loop-at in
-    omega (arith, group-inside _ _ _ l.invariant.0 (rw (← l.invariant.1) c.loop-at-test.true), l.invariant.0.fits, l.invariant.1)
+    omega (arith, group_inside _ _ _ l.invariant.0 (rw (← l.invariant.1) c.loop-at-test.true), l.invariant.0.fits, l.invariant.1)
 
 pub overflow_add-at : goal.overflow_add-at
 overflow_add-at c =
     let l = c.loop-at in
-    omega (arith, group-inside _ _ _ l.invariant.0 (rw (← l.invariant.1) c.loop-at-test.true))
+    omega (arith, group_inside _ _ _ l.invariant.0 (rw (← l.invariant.1) c.loop-at-test.true))
 
 pub loop-at-smaller : goal.loop-at-smaller
 loop-at-smaller c =
@@ -39,7 +39,7 @@ loop-at-preserved c =
     let done = c.complement_words in
     let more : l.at < length c.args.image.now =
     rw (← l.invariant.1) c.loop-at-test.true in
-    (group-done _ _ _ l.invariant.0 more done.ensures, ap length done.ensures ∙ length_stores _ _ _ _ ∙ l.invariant.1)
+    (group_done _ _ _ l.invariant.0 more done.ensures, ap length done.ensures ∙ length_stores _ _ _ _ ∙ l.invariant.1)
 
 pub shape_of-image : goal.shape_of-image
 shape_of-image c = c.loop-at.invariant.1
@@ -50,5 +50,5 @@ returns c =
     image_refusal (length a.image.now) a.layout ≡ 0 = sym c.check_image.ensures ∙ c.if-check_image-ne0.false in
     let l = c.loop-at in
     let a = c.args in
-    image-done a.image.now a.layout passed {at = l.at} (rw (← c.group_words-group.ensures) l.invariant.0)
+    image_done a.image.now a.layout passed {at = l.at} (rw (← c.group_words-group.ensures) l.invariant.0)
     (omega (arith, l.invariant.1, c.loop-at-test.false))

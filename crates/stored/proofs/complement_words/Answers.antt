@@ -4,7 +4,7 @@ use native.Mathlib.Numerals.{add-one}
 use native.Mathlib.Omega.{arith}
 use lib.ListN.{length-set}
 use Rattle.ground.specs.Stores.{stores}
-use Rattle.stored.proofs.Groups.{next-kept}
+use Rattle.stored.proofs.Groups.{next_kept}
 use Rattle.stored.proofs.complement_words.Goals as goal
 
 pub loop-k-init : goal.loop-k-init
@@ -26,7 +26,7 @@ loop-k-preserved c =
     let l = c.loop-k in
     let a = c.args in
     rw add-one
-    (omega arith, rw l.invariant.1 (rw (next-kept a.image.now a.at l.k)), simp length-set l.invariant.2)
+    (omega arith, rw l.invariant.1 (rw (next_kept a.image.now a.at l.k)), simp length-set l.invariant.2)
 
 pub shape_of-image : goal.shape_of-image
 shape_of-image c = c.loop-k.invariant.2

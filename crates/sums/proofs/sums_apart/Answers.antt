@@ -4,17 +4,17 @@ use mathlib.Core.Path.{◌≡◌, ap}
 use native.Mathlib.Omega.{arith}
 use lib.ListN.{length}
 use Rattle.shape.specs.Shape.{before, rows}
-use Rattle.sums.proofs.StoredSums.{code-sums}
+use Rattle.sums.proofs.StoredSums.{code_sums}
 use Rattle.sums.proofs.Lying.{length_lying}
-use Rattle.sums.proofs.Apart.{few_turns, none-turned, turn_more, apart-sums, within, before-few}
+use Rattle.sums.proofs.Apart.{few_turns, none_turned, turn_more, apart_sums, within, before_few}
 use Rattle.sums.proofs.Doubt.{looks, misses}
 use Rattle.sums.proofs.sums_apart.Goals as goal
 
 pub overflow_mul-rows_before : goal.overflow_mul-rows_before
-overflow_mul-rows_before c = rw c.rows_before.ensures (omega (arith, before-few c.args.s 0 c.args.shape))
+overflow_mul-rows_before c = rw c.rows_before.ensures (omega (arith, before_few c.args.s 0 c.args.shape))
 
 pub overflow_add-i : goal.overflow_add-i
-overflow_add-i c = rw c.rows_before.ensures (omega (arith, before-few c.args.s 0 c.args.shape))
+overflow_add-i c = rw c.rows_before.ensures (omega (arith, before_few c.args.s 0 c.args.shape))
 
 pub returns-then-words-i : goal.returns-then-words-i
 returns-then-words-i c =
@@ -23,7 +23,7 @@ returns-then-words-i c =
     misses args.shape args.words.now args.at args.s args.sums.now (omega (arith, r, c.if-words-i.true))
 
 pub loop-q-init : goal.loop-q-init
-loop-q-init c = (ap (λ (n : ℕ). n / 4) c.rows-turns.ensures, omega arith, none-turned)
+loop-q-init c = (ap (λ (n : ℕ). n / 4) c.rows-turns.ensures, omega arith, none_turned)
 
 pub offset_bounds-words-i : goal.offset_bounds-words-i
 offset_bounds-words-i c =
@@ -174,7 +174,7 @@ returns c =
     let loop = c.loop-q in
     let args = c.args in
     let last : loop.q ≡ rows args.shape / 4 = omega (arith, loop.invariant.0, loop.invariant.1) in
-    let are = apart-sums (λ k. omega (arith, c.shared_slice_known-1.given k)) args.shape last loop.invariant.2
+    let are = apart_sums (λ k. omega (arith, c.shared_slice_known-1.given k)) args.shape last loop.invariant.2
     c.high_digits.ensures in
     looks args.shape args.words.now args.at args.s args.sums.now _ _ room _
-    (code-sums args.shape _ (length_lying args.shape args.words.now args.at args.s) are) c.eight.ensures
+    (code_sums args.shape _ (length_lying args.shape args.words.now args.at args.s) are) c.eight.ensures

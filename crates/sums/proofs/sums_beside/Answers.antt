@@ -4,16 +4,16 @@ use native.Mathlib.Omega.{arith}
 use Rattle.ground.specs.Choice.{if_zero}
 use Rattle.sums.specs.Inner.{any_of}
 use Rattle.shape.specs.declared.Shape.TheVariants.{Two}
-use Rattle.sums.proofs.StoredSums.{code-sums}
+use Rattle.sums.proofs.StoredSums.{code_sums}
 use Rattle.sums.proofs.Lying.{length_lying}
-use Rattle.sums.proofs.Neighbours.{beside-sums}
+use Rattle.sums.proofs.Neighbours.{beside_sums}
 use Rattle.sums.proofs.sums_beside.Goals as goal
 
 pub returns : goal.returns
 returns c =
     let args = c.args in
-    let plain = beside-sums args.words.now args.at (λ k. omega (arith, c.type_inv.words k)) c.columns.ensures.table
+    let plain = beside_sums args.words.now args.at (λ k. omega (arith, c.type_inv.words k)) c.columns.ensures.table
     c.columns.ensures.top c.columns.ensures.all c.with_ends-ends.ensures c.across-d2.ensures c.across-d3.ensures
     c.across-d4.ensures c.across-d5.ensures in
-    let are = code-sums Two _ (length_lying Two args.words.now args.at 1) plain in
+    let are = code_sums Two _ (length_lying Two args.words.now args.at 1) plain in
     (c.eight.ensures.0 ∙ ap (any_of 8) are, c.eight.ensures.1 ∙ ap (if_zero c.eight.result args.sums.now) are)

@@ -7,14 +7,14 @@ use native.Mathlib.Omega.{arith}
 use borrow.Author.Rules.{rules}
 use Rattle.ground.specs.Stores.{stores}
 use Rattle.sums.proofs.WordBits.{digit_one, digit_zero}
-use Rattle.around.proofs.Digits.{changedTo, change-one, change-none, changed-all}
+use Rattle.around.proofs.Digits.{changed_to, change_one, change_none, changed_all}
 use Rattle.around.proofs.solving.change.Statement.{statement}
 use Rattle.around.proofs.solving.change.Tie as tie
 use Rattle.around.proofs.solving.change.Reads as reads
 use Rattle.around.proofs.solving.change.Lts as lts
 
 abbrev invariant-loop : tie.invariant-loop
-invariant-loop sums₀ mark lanes k₀ sums k = (k ≤ 8) × (sums ≡ changedTo mark lanes sums₀ k)
+invariant-loop sums₀ mark lanes k₀ sums k = (k ≤ 8) × (sums ≡ changed_to mark lanes sums₀ k)
 
 abbrev decreases-loop : tie.decreases-loop
 decreases-loop sums₀ mark lanes k₀ sums k = 8 - k
@@ -51,8 +51,8 @@ loop-again c =
       omega arith,
       rw add-one
           (⊎_elim
-          (λ w. rw (w.2, loop.invariant.1) (change-one args.mark args.lanes args.sums.now loop.k (digit_one loop.k args.mark w.0.taken)))
-          (λ w. rw (w.1, loop.invariant.1) (change-none args.mark args.lanes args.sums.now loop.k (digit_zero loop.k args.mark w.0.left)))
+          (λ w. rw (w.2, loop.invariant.1) (change_one args.mark args.lanes args.sums.now loop.k (digit_one loop.k args.mark w.0.taken)))
+          (λ w. rw (w.1, loop.invariant.1) (change_none args.mark args.lanes args.sums.now loop.k (digit_zero loop.k args.mark w.0.left)))
           c.if1.branch),
     )
 
@@ -60,8 +60,8 @@ returns : tie.Need-returns invariant-loop decreases-loop
 returns c =
     let args = c.before.before.args in
     let e : c.before.loop.k ≡ 8 = omega arith in
-    c.before.loop.invariant.1 ∙ ap (changedTo args.mark args.lanes args.sums.now) e
-    ∙ changed-all args.mark args.lanes args.sums.now c.before.before.requires
+    c.before.loop.invariant.1 ∙ ap (changed_to args.mark args.lanes args.sums.now) e
+    ∙ changed_all args.mark args.lanes args.sums.now c.before.before.requires
 
 pub change-spec : {M : Type 1} → statement M
 change-spec =

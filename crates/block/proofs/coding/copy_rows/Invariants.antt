@@ -1,15 +1,8 @@
 -- `block::coding::copy_rows` meets its contract. The loop's invariant: the words passed are copied; past the buffer's end nothing is stored. Assumes nothing.
-use Prim.Native.Nat.{ℕ, zero, suc, ◌+◌, ◌*◌, ◌≤◌, ◌<◌, ◌-◌}
-use mathlib.Core.Path.{◌≡◌, refl, ap, ◌∙◌}
-use native.Mathlib.Nat.{suc-mul, mul-le-mul_right}
-use native.Mathlib.Numerals.{add-one}
-use native.Mathlib.Omega.{arith}
-use lib.ListN.{length, get_or, length-set}
-use lib.Seq.{set_out}
-use borrow.Author.Rules.{rules}
-use Rattle.ground.proofs.Stores.{length_stores, stores_more}
+use Prim.Native.Nat.{◌+◌, ◌*◌, ◌≤◌, ◌<◌, ◌-◌}
+use mathlib.Core.Path.{◌≡◌}
+use lib.ListN.{length, get_or}
 use Rattle.ground.specs.Stores.{stores}
-use Rattle.ground.proofs.Smaller.{least_of}
 use Rattle.block.proofs.coding.copy_rows.Given as goal
 
 abbrev pub invariant-loop-k : goal.invariant-loop-k

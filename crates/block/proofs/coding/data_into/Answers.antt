@@ -3,12 +3,11 @@ use Prim.Native.Nat.{ℕ, ◌+◌, ◌*◌, ◌≤◌, ◌<◌}
 use mathlib.Core.Path.{◌≡◌, refl, ap}
 use native.Mathlib.Omega.{arith}
 use lib.ListN.{length, take}
-use borrow.Author.Rules.{rules}
 use Rattle.shape.specs.declared.Shape.{Shape}
 use Rattle.shape.specs.declared.Shape.TheVariants.{One, Two}
 use Rattle.shape.specs.Shape.{before, words}
-use Rattle.sums.proofs.Apart.{before-few}
-use Rattle.block.proofs.DataTables.{data_two, data_front, table-there, table-copied}
+use Rattle.sums.proofs.Apart.{before_few}
+use Rattle.block.proofs.DataTables.{data_two, data_front, table_there, table_copied}
 use Rattle.block.proofs.coding.data_into.Goals as goal
 
 few_words : (shape : Shape) → words shape ≤ 64
@@ -23,14 +22,14 @@ pub overflow_mul-rows_before : goal.overflow_mul-rows_before
 overflow_mul-rows_before c =
     let few : c.rows_before.result * c.args.s ≤ 72 * c.args.s = let args = c.args in
     let r = ap (λ (b : ℕ). b * args.s) c.rows_before.ensures in
-    omega (arith, r, before-few args.s 0 args.shape) in
+    omega (arith, r, before_few args.s 0 args.shape) in
     omega (arith, few)
 
 pub overflow_add-first : goal.overflow_add-first
 overflow_add-first c =
     let few : c.rows_before.result * c.args.s ≤ 72 * c.args.s = let args = c.args in
     let r = ap (λ (b : ℕ). b * args.s) c.rows_before.ensures in
-    omega (arith, r, before-few args.s 0 args.shape) in
+    omega (arith, r, before_few args.s 0 args.shape) in
     omega (arith, few)
 
 pub returns-then-words-first : goal.returns-then-words-first
@@ -51,7 +50,7 @@ copy_rows-requires c =
     let r = ap (λ (b : ℕ). b * args.s) c.rows_before.ensures in
     omega (arith, r, c.if-words-first.false) in
     let args = c.args in
-    (omega arith, omega arith, table-there (data_front args.shape) args.words.now args.at args.s room _ front)
+    (omega arith, omega arith, table_there (data_front args.shape) args.words.now args.at args.s room _ front)
 
 pub returns : goal.returns
 returns c =
@@ -60,5 +59,5 @@ returns c =
     let r = ap (λ (b : ℕ). b * args.s) c.rows_before.ensures in
     omega (arith, r, c.if-words-first.false) in
     let args = c.args in
-    table-copied (data_front args.shape) args.words.now args.at args.s room _ args.buffer.now
+    table_copied (data_front args.shape) args.words.now args.at args.s room _ args.buffer.now
     c.copy_rows.ensures front

@@ -2,7 +2,6 @@
 use Prim.Native.Nat.{ℕ}
 use mathlib.Core.Path.{◌≡◌, sym, ap, ◌∙◌}
 use mathlib.Core.List.{List}
-use borrow.Author.Rules.{rules}
 use Rattle.shape.specs.declared.Shape.{Shape}
 use Rattle.shape.specs.Shape.{before}
 use Rattle.block.specs.Inner.{above_of}
@@ -14,7 +13,7 @@ by_shape : {shape known : Shape} (sums : List ℕ) → shape ≡ known → above
 by_shape sums e = ap (λ (s : Shape). above_of (before s) 7 sums) (sym e)
 
 pub returns-in-One : goal.returns-in-One
-returns-in-One c = sym (above_one _) ∙ by_shape _ c.enum_told-1.given.1
+returns-in-One c = sym (above_one _) ∙ by_shape _ c.in-One.is
 
 pub returns-in-Two : goal.returns-in-Two
-returns-in-Two c = sym (above_two _) ∙ by_shape _ c.enum_told-in-Two-1.given.1
+returns-in-Two c = sym (above_two _) ∙ by_shape _ c.in-Two.is

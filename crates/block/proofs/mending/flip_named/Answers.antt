@@ -7,7 +7,7 @@ use native.Mathlib.Omega.{arith}
 use lib.Count.{count_trailing_zeros}
 use Rattle.lane.specs.Bit.{bit}
 use Rattle.sums.specs.Sums.{sum_in}
-use Rattle.block.proofs.Flips.{trailing_set, clear_less, one_lane, named_there, doneBut, none_done, all_done, next-done, next-within}
+use Rattle.block.proofs.Flips.{trailing_set, clear_less, one_lane, named_there, done_but, none_done, all_done, next_done, next_within}
 use Rattle.block.proofs.mending.flip_named.Goals as goal
 
 pub loop-left-init : goal.loop-left-init
@@ -89,14 +89,14 @@ loop-left-preserved c =
     let l = low in
     let t = there in
     rw (one_lane i l.0, inv.0) (
-      next-done args.last args.sums.now args.block.now args.lanes left i l.0 l.1 inv.1 c.row_named-p.result
+      next_done args.last args.sums.now args.block.now args.lanes left i l.0 l.1 inv.1 c.row_named-p.result
           c.row_named-p.ensures t.0,
-      next-within args.last args.sums.now args.block.now args.lanes left i l.0 l.1 inv.1,
+      next_within args.last args.sums.now args.block.now args.lanes left i l.0 l.1 inv.1,
       omega (arith, inv.2, clear_less left i (omega arith) l.0 l.1),
     )
 
 pub returns : goal.returns
 returns c =
     let args = c.args in
-    c.loop-left.invariant.0 ∙ ap (doneBut args.last args.sums.now args.block.now args.lanes) c.loop-left-test.false
+    c.loop-left.invariant.0 ∙ ap (done_but args.last args.sums.now args.block.now args.lanes) c.loop-left-test.false
     ∙ all_done args.last args.sums.now args.block.now args.lanes

@@ -1,8 +1,7 @@
 -- `block::mending::row_named` meets its contract. The loop's invariant: the sum is that of the digits passed. Assumes nothing.
-use Prim.Native.Nat.{ℕ, ◌≤◌, ◌-◌, ◌^◌}
+use Prim.Native.Nat.{ℕ, ◌≤◌, ◌^◌}
 use mathlib.Core.Bool.{Bool}
 use mathlib.Core.Path.{◌≡◌, refl, sym, ap, ◌∙◌}
-use mathlib.Core.Logic.{⊎_elim}
 use native.Mathlib.Nat.{pow-suc}
 use native.Mathlib.Numerals.{add-one}
 use native.Mathlib.Omega.{arith}
@@ -13,7 +12,7 @@ use borrow.Author.Tests.{eq-eqb, ne_eqb}
 use Rattle.sums.specs.Words.{number}
 use Rattle.sums.specs.Sums.{sum_in}
 use Rattle.sums.proofs.WordBits.{digit_one, digit_zero, number_lt}
-use borrow.Author.Rules.{rules}
+use Rattle.block.proofs.mending.row_named.Goals.{then-sums-k-eq1, else-sums-k-eq1}
 use Rattle.block.proofs.mending.row_named.Goals as goal
 
 pub loop-k-init : goal.loop-k-init
@@ -40,9 +39,10 @@ loop-k-preserved c =
     let word = get_or args.sums.now loop.k 0 in (
       omega arith,
       rw add-one
-          (⊎_elim (λ w. rw (w.1, digit_one args.i word w.0.true, loop.invariant.1, loop.invariant.2))
-          (λ w. rw (w.1, digit_zero args.i word w.0.left, loop.invariant.1) (omega arith))
-          c.if-sums-k-eq1.branch),
+          (elim c.if-sums-k-eq1.branch [
+            then-sums-k-eq1 w ↦ rw (w.sum-is, digit_one args.i word w.if-sums-k-eq1.true, loop.invariant.1, loop.invariant.2)
+            | else-sums-k-eq1 w ↦ rw (w.sum-is, digit_zero args.i word w.if-sums-k-eq1.false, loop.invariant.1) (omega arith)
+          ]),
       rw (add-one, pow-suc) (omega arith),
     )
 

@@ -5,7 +5,7 @@ use borrow.Author.Rules.{rules}
 use Rattle.file.specs.declared.Header.TheVariants.{Image}
 use Rattle.file.specs.Header.{header_of}
 use Rattle.file.proofs.Headers.{header_is}
-use Rattle.file.proofs.FileReads.{reads-refused, reads_other, reads-words, reads_old}
+use Rattle.file.proofs.FileReads.{reads_refused, reads_other, reads_words, reads_old}
 use Rattle.file.proofs.Ladder.{accepted}
 use Rattle.file.proofs.Layouts.{header_layout_lem}
 use Rattle.file.proofs.reading.read_file.Goals as goal
@@ -22,7 +22,7 @@ bounds-bytes-0 c =
     omega (arith, (accepted _ (header_layout_lem _ _ known).0).frame.least)
 
 pub returns-in-Refused : goal.returns-in-Refused
-returns-in-Refused c = reads-refused _ _ _ (sym (header_is _ _ c.read_header.ensures) ∙ c.number-1.given.1)
+returns-in-Refused c = reads_refused _ _ _ (sym (header_is _ _ c.read_header.ensures) ∙ c.number-1.given.1)
 
 pub shape_of-image-then-bytes-eq-OLD_VERSION : goal.shape_of-image-then-bytes-eq-OLD_VERSION
 shape_of-image-then-bytes-eq-OLD_VERSION c = c.complement_image.auto.0 ∙ c.read_words.auto.1.0
@@ -39,5 +39,5 @@ shape_of-image-else-bytes-eq-OLD_VERSION c = c.read_words.auto.1.0
 pub returns-else-bytes-eq-OLD_VERSION : goal.returns-else-bytes-eq-OLD_VERSION
 returns-else-bytes-eq-OLD_VERSION c =
     let header : header_of c.args.bytes.now ≡ Image c.layout-1.given.0.0 = sym (header_is _ _ c.read_header.ensures) ∙ c.layout-1.given.1 in
-    reads-words _ _ _ header (omega (arith, c.if-image-word_count.false, c.word_count.ensures)) _ c.read_words.ensures
+    reads_words _ _ _ header (omega (arith, c.if-image-word_count.false, c.word_count.ensures)) _ c.read_words.ensures
     c.if-bytes-eq-OLD_VERSION.false

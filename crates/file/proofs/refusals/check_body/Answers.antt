@@ -1,6 +1,5 @@
 -- `file::refusals::check_body` meets its contract: bytes that are no whole words are refused, and whole words as an image is. Assumes nothing.
 use mathlib.Core.Path.{sym, ◌∙◌}
-use borrow.Author.Rules.{rules}
 use Rattle.ground.proofs.Ladder.{then_first}
 use Rattle.file.specs.Refusal.{body_refusal}
 use Rattle.file.proofs.Ladder.{body_words, body_uneven}

@@ -1,5 +1,4 @@
 -- `file::refusals::check_frame` meets its contract: each test is a rung of the ladder. Assumes nothing.
-use borrow.Author.Rules.{rules}
 use Rattle.file.specs.Refusal.{frame_refusal}
 use Rattle.ground.proofs.Tests.{tests}
 use Rattle.file.proofs.refusals.check_frame.Goals as goal

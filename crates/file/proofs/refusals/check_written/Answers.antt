@@ -2,10 +2,9 @@
 use Prim.Native.Nat.{◌≤◌}
 use mathlib.Core.Path.{sym, ◌∙◌}
 use native.Mathlib.Omega.{arith}
-use borrow.Author.Rules.{rules}
 use Rattle.ground.proofs.Ladder.{then_first}
 use Rattle.ground.proofs.Tests.{tests}
-use Rattle.layout.proofs.Ladder.{image-few}
+use Rattle.layout.proofs.Ladder.{image_few}
 use Rattle.file.specs.Refusal.{write_refusal}
 use Rattle.file.proofs.refusals.check_written.Goals as goal
 
@@ -15,12 +14,12 @@ returns-then-refused-ne0 c = rw (← c.check_image-refused.ensures) (sym (then_f
 
 pub overflow_mul-size : goal.overflow_mul-size
 overflow_mul-size c =
-    let few : c.args.words ≤ 294912 = image-few _ _ (sym c.check_image-refused.ensures ∙ c.if-refused-ne0.false) in
+    let few : c.args.words ≤ 294912 = image_few _ _ (sym c.check_image-refused.ensures ∙ c.if-refused-ne0.false) in
     omega (arith, few)
 
 pub overflow_add-size : goal.overflow_add-size
 overflow_add-size c =
-    let few : c.args.words ≤ 294912 = image-few _ _ (sym c.check_image-refused.ensures ∙ c.if-refused-ne0.false) in
+    let few : c.args.words ≤ 294912 = image_few _ _ (sym c.check_image-refused.ensures ∙ c.if-refused-ne0.false) in
     omega (arith, few)
 
 pub returns-then-size-gt-LONGEST : goal.returns-then-size-gt-LONGEST

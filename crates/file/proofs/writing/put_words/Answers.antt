@@ -1,10 +1,9 @@
 -- `file::writing::put_words` meets its contract. The loop's invariant: the bytes of the first k words are put. Assumes nothing.
-use Prim.Native.Nat.{ℕ, ◌+◌, ◌*◌, ◌-◌, ◌≤◌}
+use Prim.Native.Nat.{ℕ, ◌+◌, ◌*◌}
 use mathlib.Core.Path.{◌≡◌, refl, ap, ◌∙◌}
 use mathlib.Core.List.{List}
 use native.Mathlib.Omega.{arith}
 use native.Mathlib.Numerals.{add-one}
-use borrow.Author.Rules.{rules}
 use lib.ListN.{get_or, length, length-set}
 use Rattle.ground.specs.Stores.{stores}
 use Rattle.file.specs.Inner.{body_byte, with_word}

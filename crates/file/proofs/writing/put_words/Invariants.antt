@@ -1,14 +1,9 @@
 -- `file::writing::put_words` meets its contract. The loop's invariant: the bytes of the first k words are put. Assumes nothing.
-use Prim.Native.Nat.{ℕ, ◌+◌, ◌*◌, ◌-◌, ◌≤◌}
-use mathlib.Core.Path.{◌≡◌, refl, ap, ◌∙◌}
-use mathlib.Core.List.{List}
-use native.Mathlib.Omega.{arith}
-use native.Mathlib.Numerals.{add-one}
-use borrow.Author.Rules.{rules}
-use lib.ListN.{get_or, length, length-set}
+use Prim.Native.Nat.{◌+◌, ◌*◌, ◌-◌, ◌≤◌}
+use mathlib.Core.Path.{◌≡◌}
+use lib.ListN.{length}
 use Rattle.ground.specs.Stores.{stores}
-use Rattle.file.specs.Inner.{body_byte, with_word}
-use Rattle.file.proofs.Put.{word_put}
+use Rattle.file.specs.Inner.{body_byte}
 use Rattle.file.proofs.writing.put_words.Given as goal
 
 abbrev pub invariant-loop-k : goal.invariant-loop-k

@@ -6,13 +6,13 @@ use lib.ListN.{length}
 use Rattle.ground.proofs.Stores.{length_stores}
 use Rattle.file.specs.Refusal.{write_refusal}
 use Rattle.file.specs.Inner.{Small}
-use Rattle.file.proofs.RoundTrip.{length-file}
+use Rattle.file.proofs.RoundTrip.{length_file}
 use Rattle.file.proofs.Put.{file_put, small}
-use Rattle.file.proofs.FileWrites.{writes-refused, writes_bytes}
+use Rattle.file.proofs.FileWrites.{writes_refused, writes_bytes}
 use Rattle.file.proofs.writing.write_file.Goals as goal
 
 pub returns-then-refused-ne0 : goal.returns-then-refused-ne0
-returns-then-refused-ne0 c = writes-refused _ _ _ _ c.check_written-refused.ensures c.if-refused-ne0.true
+returns-then-refused-ne0 c = writes_refused _ _ _ _ c.check_written-refused.ensures c.if-refused-ne0.true
 
 pub put_header-requires : goal.put_header-requires
 put_header-requires c =
@@ -37,7 +37,7 @@ returns c =
     let passed : let a = c.args in write_refusal (length a.image.now) a.layout (length a.buffer.now) ≡ 0 = sym c.check_written-refused.ensures ∙ c.if-refused-ne0.false in
     let room : let a = c.args in Small a.layout (length a.image.now) (length a.buffer.now) = small _ _ _ passed in
     let a = c.args in
-    let size = length-file a.layout a.image.now in
+    let size = length_file a.layout a.image.now in
     writes_bytes _ _ _ _ _ passed (omega arith)
     (rw (← c.put_header.ensures) c.put_words.ensures
     ∙ file_put a.layout a.image.now a.buffer.now room.ranges)

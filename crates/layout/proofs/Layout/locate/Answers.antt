@@ -10,8 +10,8 @@ use Rattle.ground.proofs.Ladder.{then_first}
 use Rattle.layout.specs.Layout.{rows_of}
 use Rattle.layout.specs.Refusal.{image_refusal, block_refusal}
 use Rattle.layout.specs.Site.{site_of}
-use Rattle.layout.proofs.Ladder.{accepted, block-accepted}
-use Rattle.layout.proofs.Sites.{is-site, nowhere, locates}
+use Rattle.layout.proofs.Ladder.{accepted, block_accepted}
+use Rattle.layout.proofs.Sites.{is_site, nowhere, locates}
 use Rattle.layout.proofs.Index.{first_row, first_alone}
 use Rattle.layout.proofs.Layout.locate.Goals as goal
 
@@ -35,9 +35,9 @@ overflow_mul-result c =
 pub returns-then-s-eq1 : goal.returns-then-s-eq1
 returns-then-s-eq1 c =
     let passed : image_refusal c.args.len c.args.self ≡ 0 = sym c.check_image-number.ensures ∙ c.if-number-ne0.false in
-    let none : block_refusal c.args.len c.args.self c.args.block ≡ 0 = block-accepted _ _ _ passed (omega (arith, c.blocks-2.ensures, c.if-blocks-whole.false)) in
+    let none : block_refusal c.args.len c.args.self c.args.block ≡ 0 = block_accepted _ _ _ passed (omega (arith, c.blocks-2.ensures, c.if-blocks-whole.false)) in
     let height : c.rows-height.result ≡ rows_of c.args.self = c.rows-height.ensures ∙ ap rows c.shape_of-shape.ensures in
-    locates _ _ _ (is-site _ _ _ (record {
+    locates _ _ _ (is_site _ _ _ (record {
       passed = none;
       same_shape = c.shape_of-shape.ensures;
       first = rw height (first_alone _ _ _ c.if-s-eq1.true);
@@ -46,7 +46,7 @@ returns-then-s-eq1 c =
 pub nonzero_rem-within : goal.nonzero_rem-within
 nonzero_rem-within c =
     let passed : image_refusal c.args.len c.args.self ≡ 0 = sym c.check_image-number.ensures ∙ c.if-number-ne0.false in
-    let none : block_refusal c.args.len c.args.self c.args.block ≡ 0 = block-accepted _ _ _ passed (omega (arith, c.blocks-2.ensures, c.if-blocks-whole.false)) in
+    let none : block_refusal c.args.len c.args.self c.args.block ≡ 0 = block_accepted _ _ _ passed (omega (arith, c.blocks-2.ensures, c.if-blocks-whole.false)) in
     let ok = accepted _ _ _ none in ok.geometry.s_first
 
 pub overflow_sub-result : goal.overflow_sub-result
@@ -71,9 +71,9 @@ overflow_add-result c =
 pub returns : goal.returns
 returns c =
     let passed : image_refusal c.args.len c.args.self ≡ 0 = sym c.check_image-number.ensures ∙ c.if-number-ne0.false in
-    let none : block_refusal c.args.len c.args.self c.args.block ≡ 0 = block-accepted _ _ _ passed (omega (arith, c.blocks-2.ensures, c.if-blocks-whole.false)) in
+    let none : block_refusal c.args.len c.args.self c.args.block ≡ 0 = block_accepted _ _ _ passed (omega (arith, c.blocks-2.ensures, c.if-blocks-whole.false)) in
     let height : c.rows-height.result ≡ rows_of c.args.self = c.rows-height.ensures ∙ ap rows c.shape_of-shape.ensures in
-    locates _ _ _ (is-site _ _ _ (record {
+    locates _ _ _ (is_site _ _ _ (record {
       passed = none;
       same_shape = c.shape_of-shape.ensures;
       first = rw height (first_row _ _ _);

@@ -4,8 +4,8 @@ use native.Mathlib.Omega.{arith}
 use borrow.Author.Rules.{rules}
 use Rattle.layout.specs.Refusal.{layout_refusal}
 use Rattle.layout.proofs.Ladder.{geometry}
-use Rattle.patrol.proofs.Calls.{ask-refused, ask-answered}
-use Rattle.rota.proofs.Numbers.{asks-is}
+use Rattle.patrol.proofs.Calls.{ask_refused_lem, ask_answered}
+use Rattle.rota.proofs.Numbers.{asks_is}
 use Rattle.patrol.proofs.Promises.{asks}
 use Rattle.patrol.proofs.Record.ask.Statement.{statement}
 use Rattle.patrol.proofs.Record.ask.Tie as tie
@@ -18,7 +18,7 @@ check-requires : tie.Need-check-requires
 check-requires c κs = search rules
 
 returns : tie.Need-returns
-returns c = asks _ _ (ask-refused _ _ _ c.before.check.ensures c.if1.true)
+returns c = asks _ _ (ask_refused_lem _ _ _ c.before.check.ensures c.if1.true)
 
 blocks-requires : tie.Need-blocks-requires
 blocks-requires c κs = search rules
@@ -34,8 +34,8 @@ returns-2 c =
     let answer = c.before in
     let checked = answer.before.before.before in
     asks _ _
-    (ask-answered _ _ _ checked.before.check.ensures checked.if1.false answer.ask.result
-    (rw (← answer.before.blocks2.ensures) (asks-is _ _ _ answer.ask.ensures)))
+    (ask_answered _ _ _ checked.before.check.ensures checked.if1.false answer.ask.result
+    (rw (← answer.before.blocks2.ensures) (asks_is _ _ _ answer.ask.ensures)))
 
 pub ask-spec : {M : Type 1} → statement M
 ask-spec =

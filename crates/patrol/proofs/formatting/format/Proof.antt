@@ -1,6 +1,6 @@
 -- `patrol::formatting::format` meets its contract: the store makes the image fresh, and the record is that of its layout. Assumes nothing.
 use borrow.Author.Rules.{rules}
-use Rattle.patrol.proofs.Calls.{format-refused, format-done}
+use Rattle.patrol.proofs.Calls.{format_refused, format_done}
 use Rattle.patrol.proofs.formatting.format.Statement.{statement}
 use Rattle.patrol.proofs.formatting.format.Tie as tie
 
@@ -14,13 +14,13 @@ same_length : tie.Need-same-length
 same_length c = search rules
 
 returns : tie.Need-returns
-returns c = format-refused _ _ _ _ c.before.before.before.before.fresh.ensures _ c.before.fresh2.ensures c.if1.true
+returns c = format_refused _ _ _ _ c.before.before.before.before.fresh.ensures _ c.before.fresh2.ensures c.if1.true
 
 same-length-2 : tie.Need-same-length-2
 same-length-2 c = search rules
 
 returns-2 : tie.Need-returns-2
-returns-2 c = format-done _ _ _ _ c.before.before.before.before.fresh.ensures _ c.before.fresh2.ensures c.if1.false
+returns-2 c = format_done _ _ _ _ c.before.before.before.before.fresh.ensures _ c.before.fresh2.ensures c.if1.false
 
 pub format-spec : {M : Type 1} → statement M
 format-spec =

@@ -1,6 +1,6 @@
 -- `patrol::turning::visit_due` meets its contract. Assumes nothing.
 use borrow.Author.Rules.{rules}
-use Rattle.patrol.proofs.Visits.{none-visited, one-visited, two-visited}
+use Rattle.patrol.proofs.Visits.{none_visited, one_visited, two_visited}
 use Rattle.patrol.proofs.turning.visit_due.Statement.{statement}
 use Rattle.patrol.proofs.turning.visit_due.Tie as tie
 
@@ -25,7 +25,7 @@ visit-accepted-requires-3 c κs = search rules
 returns : tie.Need-returns
 returns c =
     let told = c.before in
-    none-visited _ _ _ told.before.before.before.requires _ told.due.given.1
+    none_visited _ _ _ told.before.before.before.requires _ told.due.given.1
 
 same_length : tie.Need-same-length
 same_length c = search rules
@@ -34,7 +34,7 @@ returns-2 : tie.Need-returns-2
 returns-2 c =
     let met = c.before.before in
     let told = met.before.before.before in
-    one-visited _ _ _ told.before.before.before.requires _ _ _ met.visit-accepted.ensures told.due2.given.1
+    one_visited _ _ _ told.before.before.before.requires _ _ _ met.visit-accepted.ensures told.due2.given.1
 
 same-length-2 : tie.Need-same-length-2
 same-length-2 c = search rules
@@ -44,7 +44,7 @@ returns-3 c =
     let also = c.before.before in
     let met = also.before.before.before.before in
     let told = met.before.before.before in
-    two-visited _ _ _ told.before.before.before.requires _ _ _ met.visit-accepted2.ensures _ _ _ also.visit-accepted3.ensures told.due3.given.1
+    two_visited _ _ _ told.before.before.before.requires _ _ _ met.visit-accepted2.ensures _ _ _ also.visit-accepted3.ensures told.due3.given.1
 
 pub visit-due-spec : {M : Type 1} → statement M
 visit-due-spec =

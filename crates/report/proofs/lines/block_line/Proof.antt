@@ -3,7 +3,7 @@ use native.Mathlib.Omega.{arith}
 use borrow.Author.Rules.{rules}
 use lib.ListN.{replicate}
 use Rattle.text.specs.Text.{line_end}
-use Rattle.text.proofs.Lines.{Line, empty, with_text, with_named, line-count, line-written}
+use Rattle.text.proofs.Lines.{Line, empty, with_text, with_named, line_count, line_written}
 use Rattle.report.specs.Lines.{block_line}
 use Rattle.block.proofs.Told.{count_fits}
 use Rattle.report.proofs.VerdictLine.{with_verdict}
@@ -58,7 +58,7 @@ array-share-prefix-line : tie.Need-array-share-prefix-line
 array-share-prefix-line c = (whole c.before).inside
 
 slice-aggregate-put-text-3 : tie.Need-slice-aggregate-put-text-3
-slice-aggregate-put-text-3 c = line-count (whole c.before.before)
+slice-aggregate-put-text-3 c = line_count (whole c.before.before)
 
 put-text-requires-2 : tie.Need-put-text-requires-2
 put-text-requires-2 c κs = search rules
@@ -69,7 +69,7 @@ same_length c = search rules
 returns : tie.Need-returns
 returns c =
     let printed = c.before.before in
-    line-written (whole printed.before.before.before.before) _ printed.put-text2.ensures
+    line_written (whole printed.before.before.before.before) _ printed.put-text2.ensures
 
 pub block-line-spec : {M : Type 1} → statement M
 block-line-spec =

@@ -10,17 +10,17 @@ use Rattle.block.specs.declared.Verdict.{Verdict}
 use Rattle.block.specs.Verdict.{verdict_count}
 use Rattle.store.specs.declared.Answer.{Answer}
 use Rattle.layout.specs.Layout.{blocks}
-use Rattle.layout.proofs.Ladder.{geometry, image-layout}
+use Rattle.layout.proofs.Ladder.{geometry, image_layout}
 use Rattle.store.specs.Answer.{verdict_in}
 use Rattle.store.specs.Visit.{visit_answer, visit_after}
-use Rattle.store.proofs.Promises.{accepted-verdict}
+use Rattle.store.proofs.Promises.{accepted_verdict}
 use Rattle.report.specs.declared.Tally.{Tally}
 use Rattle.report.specs.Lines.{image_line, block_line, total_line, counted}
 use Rattle.report.specs.Report.{verdict_at, image_report, visited_below, block_lines, tally_below}
 use Rattle.text.specs.Page.{written, page, written_all}
-use Rattle.report.proofs.Counts.{Within, verdict-most, tally-within}
+use Rattle.report.proofs.Counts.{Within, verdict_most, tally_within}
 use Rattle.text.proofs.Pages.{written_last}
-use Rattle.report.proofs.Visited.{visit-finds}
+use Rattle.report.proofs.Visited.{visit_finds}
 use Rattle.report.proofs.reporting.report_image.Statement.{statement}
 use Rattle.report.proofs.reporting.report_image.Tie as tie
 
@@ -78,23 +78,23 @@ module _ (c : tie.Start invariant-loop decreases-loop) where
   many = blocks c.args.layout
 
   few : many ≤ 4096
-  few = (geometry c.args.layout (image-layout c.args.layout _ c.requires)).n_last
+  few = (geometry c.args.layout (image_layout c.args.layout _ c.requires)).n_last
 
   finds : (k : ℕ) → k < many → verdict_in (answers (images k) k) ≡ verdicts k
-  finds = visit-finds c.args.image.now c.args.layout c.requires
+  finds = visit_finds c.args.image.now c.args.layout c.requires
 
   small : (k : ℕ) → verdict_count (verdicts k) ≤ 32
-  small k = omega (arith, verdict-most c.args.image.now c.args.layout k)
+  small k = omega (arith, verdict_most c.args.image.now c.args.layout k)
 
   within : (k : ℕ) → Within k (tallies k)
-  within = tally-within c.args.image.now c.args.layout
+  within = tally_within c.args.image.now c.args.layout
 
 -- the verdict of a turn is that of its block
 found : (c : tie.After-visit-accepted invariant-loop decreases-loop) → c.visit-accepted.result ≡ verdicts (start (turn c).before) (turn c).before.loop.k
 found c =
     let at = (turn c).before in
     let k = at.loop.k in
-    accepted-verdict _ _ k c.visit-accepted.ensures
+    accepted_verdict _ _ k c.visit-accepted.ensures
     ∙ ap (λ (image : List ℕ). verdict_in (answers (start at) image k)) at.loop.inv.1
     ∙ finds (start at) k (omega (arith, (turn c).loop-test.true, (known at).blocks2.ensures))
 

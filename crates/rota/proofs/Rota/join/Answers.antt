@@ -14,8 +14,8 @@ use Rattle.rota.specs.declared.line.Line.{Line}
 use Rattle.rota.specs.declared.Place.{Place}
 use Rattle.rota.specs.declared.RotaAsked.{RotaAsked}
 use Rattle.rota.proofs.Waiting.{place_le}
-use Rattle.rota.proofs.Lines.{full_is, longer-is}
-use Rattle.rota.proofs.Entries.{line-fit, line-tidy, ask-broken, ask-block-outside, ask-again, ask-full, ask-new}
+use Rattle.rota.proofs.Lines.{full_is, longer_is}
+use Rattle.rota.proofs.Entries.{line_fit, line_tidy, ask_broken, ask_block_outside, ask_again, ask_full, ask_new}
 use Rattle.rota.proofs.Rota.join.Goals as goal
 
 -- ---- what is known on the way
@@ -48,14 +48,14 @@ pub returns-then-n-block : goal.returns-then-n-block
 returns-then-n-block c =
     let ok : unbroken c.args.n c.args.self ≡ true = sym (tested _ _ c.unbroken.ensures c.requires) ∙ c.if-unbroken.true in
     let long : length c.args.self.line.asks ≡ places = search rules in
-    parts c.requires (ask-block-outside _ _ long ok _ c.if-n-block.true)
+    parts c.requires (ask_block_outside _ _ long ok _ c.if-n-block.true)
 
 pub place_in-at-requires : goal.place_in-at-requires
 place_in-at-requires c =
     let ok : unbroken c.args.n c.args.self ≡ true = sym (tested _ _ c.unbroken.ensures c.requires) ∙ c.if-unbroken.true in
     let long : length c.args.self.line.asks ≡ places = search rules in
     let lent-long : length c.args.asks.now ≡ places = ap length c.requires ∙ long in
-    (lent-long, (line-fit _ _ ok).few)
+    (lent-long, (line_fit _ _ ok).few)
 
 pub overflow_cast-at : goal.overflow_cast-at
 overflow_cast-at c =
@@ -72,7 +72,7 @@ returns-then-at-ne0 c =
     let long : length c.args.self.line.asks ≡ places = search rules in
     let place_is : c.place_in-at.result ≡ place c.args.block (asks_of c.args.self.line) =
     placed _ _ c.place_in-at.ensures c.requires in
-    parts c.requires (ask-again _ _ long ok _ c.if-n-block.false _ place_is c.if-at-ne0.true)
+    parts c.requires (ask_again _ _ long ok _ c.if-n-block.false _ place_is c.if-at-ne0.true)
 
 pub returns-then-count-ge-PLACES : goal.returns-then-count-ge-PLACES
 returns-then-count-ge-PLACES c =
@@ -83,7 +83,7 @@ returns-then-count-ge-PLACES c =
     let new : 0 ≡ place c.args.block (asks_of c.args.self.line) = sym c.if-at-ne0.false ∙ place_is in
     let line = c.args.self.line in
     let all = le-leb places line.waiting (omega (arith, c.if-count-ge-PLACES.true)) in
-    parts c.requires (ask-full _ _ long ok _ c.if-n-block.false new (sym all ∙ full_is places line long))
+    parts c.requires (ask_full _ _ long ok _ c.if-n-block.false new (sym all ∙ full_is places line long))
 
 pub returns-then-unbroken : goal.returns-then-unbroken
 returns-then-unbroken c =
@@ -95,10 +95,10 @@ returns-then-unbroken c =
     let line = c.args.self.line in
     let room : line.waiting < places = omega (arith, c.if-count-ge-PLACES.false) in
     parts (ap (λ (l : List ℕ). set l line.waiting c.args.block) c.requires)
-    (ask-new _ _ long ok _ c.if-n-block.false _ new
+    (ask_new _ _ long ok _ c.if-n-block.false _ new
     (sym (lt-leb places line.waiting room) ∙ full_is places line long)
-    (longer-is places line long (line-tidy _ _ long ok) _ room))
+    (longer_is places line long (line_tidy _ _ long ok) _ room))
 
 pub returns : goal.returns
 returns c =
-    parts c.requires (ask-broken _ _ _ (sym (tested _ _ c.unbroken.ensures c.requires) ∙ c.if-unbroken.false))
+    parts c.requires (ask_broken _ _ _ (sym (tested _ _ c.unbroken.ensures c.requires) ∙ c.if-unbroken.false))

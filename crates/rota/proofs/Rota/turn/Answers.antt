@@ -6,7 +6,7 @@ use borrow.Author.Rules.{rules}
 use lib.ListN.{length}
 use Rattle.rota.specs.Line.{places}
 use Rattle.rota.specs.Record.{unbroken}
-use Rattle.rota.proofs.Entries.{next-inside, line-tidy, turn-broken, turn_one, turn_two}
+use Rattle.rota.proofs.Entries.{next_inside, line_tidy, turn_broken, turn_one, turn_two}
 use Rattle.rota.proofs.Numbers.{turns}
 use Rattle.rota.proofs.Rota.turn.Goals as goal
 
@@ -15,7 +15,7 @@ use Rattle.rota.proofs.Rota.turn.Goals as goal
 pub onward-next-requires : goal.onward-next-requires
 onward-next-requires c =
     let ok : unbroken c.args.n c.args.self ≡ true = sym c.unbroken.ensures ∙ c.if-unbroken.true in
-    next-inside _ _ ok
+    next_inside _ _ ok
 
 pub returns-then-line-eq0 : goal.returns-then-line-eq0
 returns-then-line-eq0 c =
@@ -27,7 +27,7 @@ pub moved_up-rest-requires : goal.moved_up-rest-requires
 moved_up-rest-requires c =
     let ok : unbroken c.args.n c.args.self ≡ true = sym c.unbroken.ensures ∙ c.if-unbroken.true in
     let long : length c.args.self.line.asks ≡ places = search rules in
-    (line-tidy _ _ long ok, omega (arith, c.if-line-eq0.false))
+    (line_tidy _ _ long ok, omega (arith, c.if-line-eq0.false))
 
 pub returns-then-unbroken : goal.returns-then-unbroken
 returns-then-unbroken c =
@@ -36,4 +36,4 @@ returns-then-unbroken c =
     turns _ _ (turn_two _ _ long ok _ _ c.onward-next.ensures (omega (arith, c.if-line-eq0.false)) c.moved_up-rest.ensures)
 
 pub returns : goal.returns
-returns c = turns _ _ (turn-broken _ _ (sym c.unbroken.ensures ∙ c.if-unbroken.false))
+returns c = turns _ _ (turn_broken _ _ (sym c.unbroken.ensures ∙ c.if-unbroken.false))

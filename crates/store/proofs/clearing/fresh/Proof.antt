@@ -4,7 +4,7 @@ use mathlib.Core.Path.{◌≡◌, refl, ap, ◌∙◌}
 use native.Mathlib.Omega.{arith}
 use borrow.Author.Rules.{rules}
 use lib.ListN.{length, set}
-use Rattle.store.proofs.Cleared.{cleared, cleared_next, length_cleared, fresh-refused, fresh-made}
+use Rattle.store.proofs.Cleared.{cleared, cleared_next, length_cleared, fresh_refused, fresh_made}
 use Rattle.store.proofs.clearing.fresh.Statement.{statement}
 use Rattle.store.proofs.clearing.fresh.Tie as tie
 
@@ -22,7 +22,7 @@ check-image-requires : tie.Need-check-image-requires invariant-loop decreases-lo
 check-image-requires c κs = search rules
 
 returns : tie.Need-returns invariant-loop decreases-loop
-returns c = fresh-refused _ _ _ c.before.check-image.ensures c.if1.true
+returns c = fresh_refused _ _ _ c.before.check-image.ensures c.if1.true
 
 loop-holds : tie.Need-loop-init invariant-loop decreases-loop
 loop-holds c = (omega arith, refl, refl)
@@ -57,7 +57,7 @@ returns-2 c =
     let looped = c.before.before.before.before.before in
     let checked = looped.before in
     let args = checked.before.before.before.args in
-    fresh-made args.image.now args.layout _ checked.before.check-image.ensures checked.if1.false looped.loop.image _ looped.loop.i
+    fresh_made args.image.now args.layout _ checked.before.check-image.ensures checked.if1.false looped.loop.image _ looped.loop.i
     (omega arith) looped.loop.invariant.2 c.before.before.complement-image.ensures
 
 pub fresh-spec : {M : Type 1} → statement M

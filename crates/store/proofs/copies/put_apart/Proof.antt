@@ -6,7 +6,7 @@ use lib.ListN.{length}
 use Rattle.ground.specs.Stores.{stores}
 use Rattle.ground.proofs.Stores.{length_stores}
 use Rattle.store.specs.Inner.{stride_write}
-use Rattle.store.proofs.Turns.{along, four-inside, four_stores}
+use Rattle.store.proofs.Turns.{along, four_inside, four_stores}
 use Rattle.store.proofs.copies.put_apart.Statement.{statement}
 use Rattle.store.proofs.copies.put_apart.Tie as tie
 
@@ -28,7 +28,7 @@ put-four-requires : tie.Need-put-four-requires invariant-loop decreases-loop
 put-four-requires c κs =
     let loop = c.before.before.loop in
     let start = c.before.before.before.before in
-    (omega arith, rw (held c.before.before) (four-inside start.args.at start.args.s loop.k loop.invariant.3 start.requires.2 (omega arith)))
+    (omega arith, rw (held c.before.before) (four_inside start.args.at start.args.s loop.k loop.invariant.3 start.requires.2 (omega arith)))
 
 loop-again : tie.Need-loop-preserved invariant-loop decreases-loop
 unfolding stride_write

@@ -4,7 +4,7 @@ use mathlib.Core.Path.{◌≡◌, refl}
 use native.Mathlib.Omega.{arith}
 use Rattle.ground.specs.Stores.{stores}
 use Rattle.store.specs.Inner.{stride_read}
-use Rattle.store.proofs.Turns.{along, four-inside, four_stores}
+use Rattle.store.proofs.Turns.{along, four_inside, four_stores}
 use Rattle.store.proofs.copies.take_apart.Statement.{statement}
 use Rattle.store.proofs.copies.take_apart.Tie as tie
 
@@ -22,7 +22,7 @@ take-four-requires : tie.Need-take-four-requires invariant-loop decreases-loop
 take-four-requires c κs =
     let loop = c.before.before.loop in
     let start = c.before.before.before.before in
-    (omega arith, four-inside start.args.at start.args.s loop.k loop.invariant.3 start.requires.2 (omega arith))
+    (omega arith, four_inside start.args.at start.args.s loop.k loop.invariant.3 start.requires.2 (omega arith))
 
 loop-again : tie.Need-loop-preserved invariant-loop decreases-loop
 unfolding stride_read

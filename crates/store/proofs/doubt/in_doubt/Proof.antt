@@ -8,10 +8,10 @@ use Rattle.ground.proofs.Choices.{refused_kept}
 use Rattle.shape.specs.Shape.{rows}
 use Rattle.block.specs.Block.{blank, lanes_lost, mended_lanes}
 use Rattle.block.specs.Verdict.{verdict_of}
-use Rattle.block.proofs.Told.{lost-some, not-lost}
+use Rattle.block.proofs.Told.{lost_some, not_lost}
 use Rattle.stored.specs.Stored.{complemented}
 use Rattle.store.specs.Inner.{stride_read, taken}
-use Rattle.store.proofs.Strides.{decided-there, mended-there}
+use Rattle.store.proofs.Strides.{decided_there, mended_there}
 use Rattle.store.proofs.doubt.in_doubt.Statement.{statement}
 use Rattle.store.proofs.doubt.in_doubt.Tie as tie
 
@@ -24,13 +24,13 @@ module _ (c : tie.After-decide) where
   found = taken start.args.shape start.args.image.now start.args.at start.args.s
 
   says : c.decide.result ≡ verdict_of start.args.shape found
-  says = decided-there start.args.image.now start.args.shape start.args.at start.args.s start.pre.1 c.decide.ensures
+  says = decided_there start.args.image.now start.args.shape start.args.at start.args.s start.pre.1 c.decide.ensures
 
 returns : tie.Need-returns
 returns c =
     let decided = c.before.before in
     let shape = (start decided).args.shape in
-    let some = lost-some shape (found decided) _ (says decided) _ _ c.enum_told.given.1 in
+    let some = lost_some shape (found decided) _ (says decided) _ _ c.enum_told.given.1 in
     (says decided, (start decided).requires.2 ∙ sym (refused_kept (lanes_lost shape (found decided)) (mended_lanes shape (found decided)) blank some))
 
 returns-2 : tie.Need-returns-2
@@ -39,11 +39,11 @@ returns-2 c =
     let kept = gathered.before.before in
     let decided = kept.before in
     let args = (start decided).args in
-    let none = not-lost args.shape (found decided) _ (says decided) kept.match.keys2 in
+    let none = not_lost args.shape (found decided) _ (says decided) kept.match.keys2 in
     let took = gathered.gather.ensures
     ∙ ap (λ (lent : List ℕ). complemented (stride_read args.image.now args.at args.s lent (rows args.shape))) (start decided).requires.2 in (
       says decided,
-      mended-there args.image.now args.shape args.at args.s (start decided).requires.1 took c.mend.ensures
+      mended_there args.image.now args.shape args.at args.s (start decided).requires.1 took c.mend.ensures
           ∙ sym (ap (λ (n : ℕ). if_zero n (mended_lanes args.shape (found decided)) blank) none),
     )
 

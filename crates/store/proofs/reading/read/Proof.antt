@@ -4,11 +4,11 @@ use borrow.Author.Rules.{rules}
 use native.Mathlib.Omega.{arith}
 use lib.ListN.{length}
 use Rattle.shape.specs.Shape.{words}
-use Rattle.layout.proofs.Sites.{Located, located, locates-is}
-use Rattle.store.proofs.Calls.{read-refused, read-lost, read-data, read-clean}
-use Rattle.store.proofs.Located.{inside, first_small, data-refused, list-refused}
-use Rattle.store.proofs.Strides.{mended-size, mended-whole, clean-there, sums-there, data-there, data_gathered}
-use Rattle.block.proofs.Told.{not-lost}
+use Rattle.layout.proofs.Sites.{Located, located, locates_is}
+use Rattle.store.proofs.Calls.{read_refused, read_lost, read_data, read_clean}
+use Rattle.store.proofs.Located.{inside, first_small, data_refused, list_refused}
+use Rattle.store.proofs.Strides.{mended_size, mended_whole, clean_there, sums_there, data_there, data_gathered}
+use Rattle.block.proofs.Told.{not_lost}
 use Rattle.store.proofs.reading.read.Statement.{statement}
 use Rattle.store.proofs.reading.read.Tie as tie
 
@@ -18,7 +18,7 @@ start c = c.before.before.before.before.before.before
 
 site : (c : tie.After-known-told2) → let a = (start c).args in let found = c.before.shape.given.0 in
     Located (length a.image.now) a.layout a.block found.0 found.1.0
-site c = located _ _ _ _ _ (sym (locates-is _ _ _ c.before.before.before.locate.ensures) ∙ c.before.shape.given.1)
+site c = located _ _ _ _ _ (sym (locates_is _ _ _ c.before.before.before.locate.ensures) ∙ c.before.shape.given.1)
 
 -- the buffer is of the exact length
 fits : (c : tie.Else1) → length (start c.before.before).args.buffer.now ≡ words c.before.before.before.shape.given.0.0
@@ -30,8 +30,8 @@ exact c = c.before.before
 
 returns : tie.Need-returns
 returns c =
-    read-refused _ _ _ 7 _
-    (list-refused _ _ _ (site c.before.before) _ (λ e. omega (arith, c.if1.true, c.before.words.ensures)))
+    read_refused _ _ _ 7 _
+    (list_refused _ _ _ (site c.before.before) _ (λ e. omega (arith, c.if1.true, c.before.words.ensures)))
     (λ z. omega arith)
 
 cast-look : tie.Need-overflow-cast-look
@@ -46,8 +46,8 @@ returns-2 c =
     let p = site (exact looked).before.before in
     let there = looked.look.ensures in
     let none : looked.look.result ≡ 0 = omega (arith, c.before.before.before.before.if2.true) in
-    read-clean _ p (clean-there _ _ _ _ (inside _ _ _ p) there none) _ _ (fits (exact looked))
-    (data-there _ _ _ _ (inside _ _ _ p) there c.before.before.data-into.ensures)
+    read_clean _ p (clean_there _ _ _ _ (inside _ _ _ p) there none) _ _ (fits (exact looked))
+    (data_there _ _ _ _ (inside _ _ _ p) there c.before.before.data-into.ensures)
 
 -- from where the block in doubt is decided
 abbrev seen : tie.After-in-doubt → tie.After-look
@@ -57,35 +57,35 @@ in-doubt-requires : tie.Need-in-doubt-requires
 in-doubt-requires c κs =
     let looked = c.before.before.before in
     let p = site (exact looked).before.before in
-    (inside _ _ _ p, sums-there _ _ _ _ (inside _ _ _ p) looked.look.ensures c.before.before.if2.false, refl)
+    (inside _ _ _ p, sums_there _ _ _ _ (inside _ _ _ p) looked.look.ensures c.before.before.if2.false, refl)
 
 returns-3 : tie.Need-returns-3
 returns-3 c =
     let decided = c.before.before in
     let looked = exact (seen decided) in
-    read-lost _ (site looked.before.before) _ refl _ decided.in-doubt.ensures.0 _ (fits looked) _ _ c.enum_told.given.1
+    read_lost _ (site looked.before.before) _ refl _ decided.in-doubt.ensures.0 _ (fits looked) _ _ c.enum_told.given.1
 
 whole_copy : tie.Need-slice-aggregate-data-of
 whole_copy c =
     let decided = c.before.before.in-doubt.ensures in
-    sym (mended-size _ _ _ _ (mended-whole _ _ _ _ (not-lost _ _ _ decided.0 c.before.match2.keys2) decided.1))
+    sym (mended_size _ _ _ _ (mended_whole _ _ _ _ (not_lost _ _ _ decided.0 c.before.match2.keys2) decided.1))
 
 returns-4 : tie.Need-returns-4
 returns-4 c =
     let found = c.before.before.before in
-    let none = sym (locates-is _ _ _ found.locate.ensures) ∙ c.before.number.given.1 in
-    let r = data-refused _ _ _ _ (length found.before.before.before.args.buffer.now) none in
-    read-refused _ _ _ _ _ r.0 r.1
+    let none = sym (locates_is _ _ _ found.locate.ensures) ∙ c.before.number.given.1 in
+    let r = data_refused _ _ _ _ (length found.before.before.before.args.buffer.now) none in
+    read_refused _ _ _ _ _ r.0 r.1
 
 returns-5 : tie.Need-returns-5
 returns-5 c =
     let kept = c.before.before.before.before.before in
     let decided = kept.before in
     let told = decided.in-doubt.ensures in
-    let mended = mended-whole _ _ _ _ (not-lost _ _ _ told.0 kept.match2.keys2) told.1 in
+    let mended = mended_whole _ _ _ _ (not_lost _ _ _ told.0 kept.match2.keys2) told.1 in
     let looked = exact (seen decided) in
-    read-data _ (site looked.before.before) _ refl _ decided.in-doubt.ensures.0 _ (fits looked) kept.match2.keys2 _ _ mended
-    (data_gathered _ (mended-size _ _ _ _ mended) c.before.before.data_of.ensures)
+    read_data _ (site looked.before.before) _ refl _ decided.in-doubt.ensures.0 _ (fits looked) kept.match2.keys2 _ _ mended
+    (data_gathered _ (mended_size _ _ _ _ mended) c.before.before.data_of.ensures)
 
 pub read_spec : {M : Type 1} → statement M
 read_spec =

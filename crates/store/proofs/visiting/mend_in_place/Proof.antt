@@ -1,7 +1,7 @@
 -- `store::visiting::mend_in_place` meets its contract: mended and scattered, or clean or lost and left as it is. Assumes nothing.
 use borrow.Author.Rules.{rules}
-use Rattle.store.proofs.Strides.{left, mended-whole}
-use Rattle.block.proofs.Told.{mended-none}
+use Rattle.store.proofs.Strides.{left, mended_whole}
+use Rattle.block.proofs.Told.{mended_none}
 use Rattle.store.proofs.visiting.mend_in_place.Statement.{statement}
 use Rattle.store.proofs.visiting.mend_in_place.Tie as tie
 
@@ -9,7 +9,7 @@ returns : tie.Need-returns
 returns c =
     let told = c.before.before.before.before.before in
     let decided = told.before.before.in-doubt.ensures in
-    let whole = mended-whole _ _ _ _ (mended-none _ _ _ decided.0 _ told.enum_told.given.1) decided.1 in
+    let whole = mended_whole _ _ _ _ (mended_none _ _ _ decided.0 _ told.enum_told.given.1) decided.1 in
     rw (← whole) (decided.0, c.before.before.scatter.ensures)
 
 returns-2 : tie.Need-returns-2

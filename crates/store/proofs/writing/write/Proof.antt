@@ -4,9 +4,9 @@ use borrow.Author.Rules.{rules}
 use native.Mathlib.Omega.{arith}
 use lib.ListN.{length}
 use Rattle.shape.specs.Shape.{words}
-use Rattle.layout.proofs.Sites.{Located, located, locates-is}
-use Rattle.store.proofs.Calls.{write-refused, write-stored}
-use Rattle.store.proofs.Located.{inside, data-refused, list-refused}
+use Rattle.layout.proofs.Sites.{Located, located, locates_is}
+use Rattle.store.proofs.Calls.{write_refused, write_stored}
+use Rattle.store.proofs.Located.{inside, data_refused, list_refused}
 use Rattle.store.proofs.writing.write.Statement.{statement}
 use Rattle.store.proofs.writing.write.Tie as tie
 
@@ -16,7 +16,7 @@ start c = c.before.before.before.before.before.before
 
 site : (c : tie.After-known-told2) → let a = (start c).args in let found = c.before.shape.given.0 in
     Located (length a.image.now) a.layout a.block found.0 found.1.0
-site c = located _ _ _ _ _ (sym (locates-is _ _ _ c.before.before.before.locate.ensures) ∙ c.before.shape.given.1)
+site c = located _ _ _ _ _ (sym (locates_is _ _ _ c.before.before.before.locate.ensures) ∙ c.before.shape.given.1)
 
 -- the list is of the exact length
 fits : (c : tie.Else1) → length (start c.before.before).args.list.now ≡ words c.before.before.before.shape.given.0.0
@@ -40,8 +40,8 @@ words-requires c κs = search rules
 
 returns : tie.Need-returns
 returns c =
-    write-refused _ _ _ 7 _
-    (list-refused _ _ _ (site c.before.before) _ (λ e. omega (arith, c.if1.true, c.before.words.ensures)))
+    write_refused _ _ _ 7 _
+    (list_refused _ _ _ (site c.before.before) _ (λ e. omega (arith, c.if1.true, c.before.words.ensures)))
     (λ z. omega arith)
 
 encode-requires : tie.Need-encode-requires
@@ -56,9 +56,9 @@ scatter-requires c κs = inside _ _ _ (site (exact c).before.before)
 returns-2 : tie.Need-returns-2
 returns-2 c =
     let found = c.before.before.before in
-    let none = sym (locates-is _ _ _ found.locate.ensures) ∙ c.before.number.given.1 in
-    let r = data-refused _ _ _ _ (length found.before.before.before.args.list.now) none in
-    write-refused _ _ _ _ _ r.0 r.1
+    let none = sym (locates_is _ _ _ found.locate.ensures) ∙ c.before.number.given.1 in
+    let r = data_refused _ _ _ _ (length found.before.before.before.args.list.now) none in
+    write_refused _ _ _ _ _ r.0 r.1
 
 same_length : tie.Need-same-length
 same_length c = search rules
@@ -67,7 +67,7 @@ returns-3 : tie.Need-returns-3
 returns-3 c =
     let coded = c.before.before.before in
     let passed = exact coded in
-    write-stored _ (site passed.before.before) _ _ _ (fits passed) coded.before.before.before.encode.ensures c.before.before.scatter.ensures
+    write_stored _ (site passed.before.before) _ _ _ (fits passed) coded.before.before.before.encode.ensures c.before.before.scatter.ensures
 
 pub write_spec : {M : Type 1} → statement M
 write_spec =

@@ -5,7 +5,7 @@ use native.Mathlib.Omega.{arith}
 use lib.ListN.{set, length-set}
 use lib.Seq.{paste, paste-zero}
 use Rattle.words.specs.Answers.{verdictWidth}
-use Rattle.words.proofs.Copies.{copy_more, visit-put}
+use Rattle.words.proofs.Copies.{copy_more, visit_put}
 use borrow.Author.Rules.{rules}
 use Rattle.words.proofs.answers.with_visit.Statement.{statement}
 use Rattle.words.proofs.answers.with_visit.Tie as tie
@@ -69,7 +69,7 @@ returns c =
     let at = c.before.loop in
     let seen = c.before.before.verdict-words in
     let e : at.k ≡ verdictWidth = omega arith in
-    visit-put args.words args.at args.block args.verdict seen.result at.more (omega arith) seen.ensures
+    visit_put args.words args.at args.block args.verdict seen.result at.more (omega arith) seen.ensures
     (at.invariant.1 ∙ ap (paste (set args.words args.at args.block) (args.at + 1) seen.result) e)
 
 pub with-visit-spec : {M : Type 1} → statement M

@@ -7,8 +7,8 @@ use borrow.Author.Rules.{rules}
 use lib.ListN.{length, drop, get_or, set}
 use lib.Seq.{paste-zero}
 use Rattle.rota.specs.Line.{places}
-use Rattle.rota.proofs.Places.{move-next, move-end}
-use Rattle.rota.proofs.Lines.{shorter-is}
+use Rattle.rota.proofs.Places.{move_next, move_end}
+use Rattle.rota.proofs.Lines.{shorter_is}
 use Rattle.rota.proofs.line.Line.moved_up.Goals as goal
 
 pub loop-i-init : goal.loop-i-init
@@ -21,7 +21,7 @@ loop-i-preserved c =
     let at = c.loop-i in (
       omega arith,
       ap (λ (x : List ℕ). set x at.i (get_or x (at.i + 1) 0)) at.invariant.1
-          ∙ move-next places asks long at.i c.loop-i-test.true,
+          ∙ move_next places asks long at.i c.loop-i-test.true,
     )
 
 pub returns : goal.returns
@@ -32,7 +32,7 @@ returns c =
     let e : at.i ≡ 15 = omega arith in
     -- the loop has ended and the last place is cleared: every block is moved up
     let ended : set at.asks 15 0 ≡ drop 1 asks ++ 0 ∷ [] =
-    ap₂ (λ (x : List ℕ) (i : ℕ). set x i 0) at.invariant.1 (sym e) ∙ move-end places asks long at.i (omega arith) e in
+    ap₂ (λ (x : List ℕ) (i : ℕ). set x i 0) at.invariant.1 (sym e) ∙ move_end places asks long at.i (omega arith) e in
     let line = c.args.self in
     ap (λ (x : List ℕ). record { waiting = line.waiting - 1; asks = x }) ended
-    ∙ shorter-is places line long c.requires.0 c.requires.1
+    ∙ shorter_is places line long c.requires.0 c.requires.1
