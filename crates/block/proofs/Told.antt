@@ -2,11 +2,10 @@
 use Prim.Native.Nat.{ℕ, zero, suc, ◌+◌, ◌≤◌}
 use mathlib.Core.Bool.{Bool, true, false, true≢false}
 use mathlib.Core.Path.{◌≡◌, refl, sym, ap, subst, ◌∙◌}
-use mathlib.Core.List.{List, [], ◌∷◌}
+use mathlib.Core.List.{List}
 use native.Mathlib.Omega.{arith}
 use lib.ListN.{length}
-use types.Run.{OneOf, miss}
-use denote.Enum.Declared.{row, tag_of}
+use denote.Enum.Declared.{row}
 use denote.Laws.{Is}
 use mir.Syntax.{w32}
 use mir.Val.{Fits, Val}
@@ -27,13 +26,13 @@ use Rattle.block.specs.Verdict.{verdict_number, verdict_count, verdict_beyond, s
 use Rattle.block.specs.contracts.Verdict.{the_type}
 use Rattle.block.proofs.Blocks.{none_counted, counted_none, none_kept, mended_kept, mended_lost, unchanged_lanes, changed_odd}
 
--- ---- by the variants that a test of the code leaves: clean is 0, mended 1, lost 2
+-- ---- by the variants that a test of the code leaves
 
 abbrev pub NotLost : Verdict → Type 0
-NotLost v = OneOf (0 ∷ 1 ∷ []) (tag_of the_type v)
+NotLost v = (e b : ℕ) → v ≡ Lost e b → ⊥
 
 abbrev pub NotMended : Verdict → Type 0
-NotMended v = OneOf (0 ∷ 2 ∷ []) (tag_of the_type v)
+NotMended v = (n : ℕ) → v ≡ Mended n → ⊥
 
 -- ---- by the numbers of lanes lost, of each kind of them, and of bits changed
 
@@ -52,12 +51,12 @@ module _ (kinds : Kind → ℕ) where
   -- not lost: no lane is
   none_lost : (lost changed : ℕ) → NotLost (verdict lost kinds changed) → lost ≡ 0
   none_lost zero changed keys = refl
-  none_lost (suc lost) changed keys = absurd (miss (0 ∷ 1 ∷ []) 2 tt keys)
+  none_lost (suc lost) changed keys = absurd (keys _ _ refl)
 
   -- not mended: where no lane is lost no bit changed
   none_changed : (lost changed : ℕ) → NotMended (verdict lost kinds changed) → lost ≡ 0 → changed ≡ 0
   none_changed zero zero keys e = refl
-  none_changed zero (suc changed) keys e = absurd (miss (0 ∷ 2 ∷ []) 1 tt keys)
+  none_changed zero (suc changed) keys e = absurd (keys _ refl)
   none_changed (suc lost) changed keys e = absurd (omega arith)
 
   -- ---- its number and its counts

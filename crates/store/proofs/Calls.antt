@@ -1,10 +1,9 @@
 -- What a call that has its place answers and leaves, from what its steps gave: the rows gathered, the verdict, the rows scattered. Assumes nothing.
 use Prim.Native.Nat.{ℕ}
 use mathlib.Core.Path.{◌≡◌, refl, sym, ap, ap₂, ◌∙◌}
-use mathlib.Core.List.{List, [], ◌∷◌}
+use mathlib.Core.List.{List}
 use native.Mathlib.Omega.{arith}
 use lib.ListN.{length, get_or}
-use types.Run.{hit}
 use Rattle.shape.specs.declared.Shape.{Shape}
 use Rattle.block.specs.declared.Verdict.{Verdict}
 use Rattle.block.specs.declared.Verdict.TheVariants.{Clean, Lost}
@@ -97,14 +96,14 @@ module _ (image : List ℕ) {layout : Layout} {block : ℕ} {shape : Shape} {at 
         (w ∙ scattered (mended_block shape found) ∙ ap (λ (l : List ℕ). placed layout block l image) (mends (mended_block shape found) refl)))
 
     module _ (buffer : List ℕ) (fits : length buffer ≡ words shape) where
-      read_answer : Found v ≡ read_answer image layout block buffer
+      read_answer_lem : Found v ≡ read_answer image layout block buffer
       unfolding read_answer
-      read_answer = rw (list_fits (length image) layout block site (length buffer) fits) (ap Found judged)
+      read_answer_lem = rw (list_fits (length image) layout block site (length buffer) fits) (ap Found judged)
 
       pub read_lost : (e b : ℕ) → v ≡ Lost e b → Reads image layout block buffer (Found v) image buffer
       unfolding read_buffer mended_data
       read_lost e b l =
-          reads _ _ _ _ read_answer
+          reads _ _ _ _ read_answer_lem
           (rw (list_fits (length image) layout block site (length buffer) fits)
           (sym (refused_kept _ _ buffer (lost_some (shape_of layout) (gathered layout block image) v judged e b l))))
 
@@ -112,7 +111,7 @@ module _ (image : List ℕ) {layout : Layout} {block : ℕ} {shape : Shape} {at 
           → Reads image layout block buffer (Found v) image after
       unfolding read_buffer mended_data
       read_data keys mended after e a =
-          reads _ _ _ _ read_answer
+          reads _ _ _ _ read_answer_lem
           (rw (list_fits (length image) layout block site (length buffer) fits, not_lost (shape_of layout) (gathered layout block image) v judged keys)
           (a ∙ data_fills shape mended buffer fits ∙ ap₂ data_of site.same_shape (mends mended e)))
 
@@ -121,12 +120,12 @@ module _ (image : List ℕ) {layout : Layout} {block : ℕ} {shape : Shape} {at 
       → after ≡ data_into shape (taken shape image at layout.s) buffer
       → Reads image layout block buffer (Found Clean) image after
   read_clean says buffer after fits e =
-      read_data _ refl Clean says buffer fits (hit (0 ∷ 1 ∷ []) 0 tt) _ after
-      (sym (not_mended shape (taken shape image at layout.s) Clean says (read_long image shape at layout.s) (hit (0 ∷ 2 ∷ []) 0 tt))) e
+      read_data _ refl Clean says buffer fits (λ e b w. cc) _ after
+      (sym (not_mended shape (taken shape image at layout.s) Clean says (read_long image shape at layout.s) (λ n w. cc))) e
 
   -- a valid block is left where it lies
   pub visit_clean : Clean ≡ verdict_of shape (taken shape image at layout.s) → Visits image layout block (Found Clean) image
-  visit_clean says = visit_found _ refl Clean says image (left image shape at layout.s Clean says (hit (0 ∷ 2 ∷ []) 0 tt))
+  visit_clean says = visit_found _ refl Clean says image (left image shape at layout.s Clean says (λ n w. cc))
 
 -- a visit for a caller who wants its verdict alone
 pub accepts : {image : List ℕ} {layout : Layout} {block : ℕ} {answer : Answer} {after : List ℕ} → Visits image layout block answer after

@@ -56,7 +56,7 @@ returns-then-body-ne0 c =
 
 pub returns : goal.returns
 returns c =
-    let read : layout_of c.wide.result c.wide-2.result c.pair_of.result ≡ layout_in c.args.bytes.now = same_layout c.wide.ensures c.wide-2.ensures c.pair_of.ensures.0 in
     let passes : frame_refusal c.args.bytes.now ≡ 0 = sym c.check_frame-frame.ensures ∙ c.if-frame-ne0.false in
+    let read : layout_of c.wide.result c.wide-2.result c.pair_of.result ≡ layout_in c.args.bytes.now = same_layout c.wide.ensures c.wide-2.ensures c.pair_of.ensures.0 in
     let refusal : file_refusal c.args.bytes.now ≡ c.check_body-body.result = frame_passed _ passes ∙ rw (← read) (sym c.check_body-body.ensures) in
     header_read _ _ (ap Image read ∙ header_image _ (refusal ∙ c.if-body-ne0.false))

@@ -1,12 +1,11 @@
 -- `file::reading::read_words` meets its contract. The loop's invariant: the first k words are copied. Assumes nothing.
-use Prim.Native.Nat.{min, ◌≤◌, ◌-◌}
+use Prim.Native.Nat.{min}
 use mathlib.Core.Path.{◌≡◌, refl}
 use native.Mathlib.Omega.{arith}
 use native.Mathlib.Numerals.{add-one}
-use borrow.Author.Rules.{rules}
 use lib.ListN.{length, length-set}
 use Rattle.ground.specs.Stores.{stores}
-use Rattle.file.specs.Bytes.{word_count, word_in}
+use Rattle.file.specs.Bytes.{word_count}
 use Rattle.file.specs.Inner.{words_into}
 use Rattle.file.proofs.reading.read_words.Goals as goal
 

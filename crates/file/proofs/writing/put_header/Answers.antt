@@ -3,7 +3,6 @@ use Prim.Native.Nat.{ℕ, ◌+◌, ◌*◌}
 use mathlib.Core.Path.{◌≡◌, refl, ap, ◌∙◌}
 use mathlib.Core.List.{List}
 use native.Mathlib.Omega.{arith}
-use borrow.Author.Rules.{rules}
 use lib.ListN.{set, length-set}
 use Rattle.file.specs.Inner.{with_word}
 use Rattle.file.proofs.Put.{head_put}
@@ -17,7 +16,7 @@ put_word-requires-2 c = rw c.put_word.ensures (simp length-set (omega arith))
 
 pub shape_of-bytes : goal.shape_of-bytes
 shape_of-bytes c =
-    let put : c.put_word-2.new.1.0
+    let put : c.put_word-2.new.bytes
     ≡ with_word (c.args.layout.shape * 16777216 + c.args.layout.s * 65536 + c.args.layout.g)
     (with_word (4 + 4 * c.args.words) (set c.args.bytes.now 0 2) 1)
     5 = c.put_word-2.ensures
@@ -27,7 +26,7 @@ shape_of-bytes c =
 
 pub returns : goal.returns
 returns c =
-    let put : c.put_word-2.new.1.0
+    let put : c.put_word-2.new.bytes
     ≡ with_word (c.args.layout.shape * 16777216 + c.args.layout.s * 65536 + c.args.layout.g)
     (with_word (4 + 4 * c.args.words) (set c.args.bytes.now 0 2) 1)
     5 = c.put_word-2.ensures

@@ -1,7 +1,6 @@
 -- `file::writing::write_file` meets its contract: refused, or header and words put. Assumes nothing.
 use mathlib.Core.Path.{◌≡◌, sym, ◌∙◌}
 use native.Mathlib.Omega.{arith}
-use borrow.Author.Rules.{rules}
 use lib.ListN.{length}
 use Rattle.ground.proofs.Stores.{length_stores}
 use Rattle.file.specs.Refusal.{write_refusal}
@@ -40,4 +39,4 @@ returns c =
     let size = length_file a.layout a.image.now in
     writes_bytes _ _ _ _ _ passed (omega arith)
     (rw (← c.put_header.ensures) c.put_words.ensures
-    ∙ file_put a.layout a.image.now a.buffer.now room.ranges)
+    ∙ file_put a.layout a.image.now a.buffer.now room.fits)
