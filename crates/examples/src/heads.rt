@@ -34,7 +34,7 @@ pub(crate) const FILE_LAYOUT: u32 = 8;
 
 const FILE_READ: u32 = 9;
 
-#[derive(Drop)]
+#[derive(Clone, Copy)]
 pub(crate) struct Head {
     pub(crate) call: u32,
     pub(crate) layout: Layout,

@@ -1,7 +1,10 @@
 // Vectors from standard input: a count and then as many words, the most significant byte first.
+ghost use Rattle.std.specs.Io.{ReadsAtMost};
+
 use crate::answers::ANSWER_WORDS;
 use crate::heads::{FILE_BYTES, FILED_WORDS, HEAD_WORDS};
-use libc::STDIN_FILENO;
+use std::io;
+use std::io::Read;
 
 // The longest vector, one of a file: its head, what is lent, the answer, and what is left of what was lent.
 pub(crate) const VECTOR_WORDS: usize = HEAD_WORDS + ANSWER_WORDS + 2 * (FILED_WORDS + FILE_BYTES);
@@ -35,30 +38,52 @@ fn unpack(bytes: &[u8; VECTOR_BYTES], words: &mut [u32; VECTOR_WORDS]) {
     }
 }
 
+// Reads until `bytes` is full or the input ends, and says how many bytes it put at the start of `bytes`.
+fn read_full(input: &mut impl Read, bytes: &mut [u8]) -> io::Result<usize>
+    ensures { ReadsAtMost result bytes.new }
+{
+    let mut count = 0;
+    while count < bytes.len() {
+        let more = input.read(&mut bytes[count..])?;
+        if more == 0 {
+            break;
+        }
+        count += more;
+    }
+    Ok(count)
+}
+
 // Reads so many words, and says whether they were there.
-fn read_words(count: u32, words: &mut [u32; VECTOR_WORDS]) -> bool {
+fn read_words(
+    input: &mut impl Read,
+    count: u32,
+    words: &mut [u32; VECTOR_WORDS],
+) -> io::Result<bool> {
     let many = count as usize;
     if VECTOR_WORDS < many {
-        return false;
+        return Ok(false);
     }
     let size = many * 4;
     let mut bytes = [0u8; VECTOR_BYTES];
-    let got = io::read_full(STDIN_FILENO, &mut bytes[0..size]);
+    let got = read_full(input, &mut bytes[0..size])?;
     unpack(&bytes, words);
-    got == size
+    Ok(got == size)
 }
 
 // Reads the next vector.
-pub(crate) fn read_vector(words: &mut [u32; VECTOR_WORDS]) -> Input {
-    if read_words(1, words) {
+pub(crate) fn read_vector(
+    input: &mut impl Read,
+    words: &mut [u32; VECTOR_WORDS],
+) -> io::Result<Input> {
+    if read_words(input, 1, words)? {
         let count = words[0];
         if count == 0 {
-            return Input::End;
+            return Ok(Input::End);
         }
-        if read_words(count, words) {
-            return Input::Words(count);
+        if read_words(input, count, words)? {
+            return Ok(Input::Words(count));
         }
-        return Input::Broken;
+        return Ok(Input::Broken);
     }
-    Input::End
+    Ok(Input::End)
 }

@@ -4,6 +4,8 @@ use crate::calls::run;
 use crate::heads::{FILE_BYTES, HEAD_WORDS, Head, IMAGE_WORDS};
 use crate::input::{Input, VECTOR_WORDS, read_vector};
 use crate::lists::{after, copy, first, lent, same};
+use std::io;
+use std::io::Read;
 use words::RECORD_WORDS;
 
 // How many vectors there were, and how many agree.
@@ -71,37 +73,37 @@ fn agrees(words: &[u32; VECTOR_WORDS], count: u32) -> bool {
 }
 
 // Reads the next vector and runs it.
-fn run_next() -> Outcome {
+fn run_next(input: &mut impl Read) -> io::Result<Outcome> {
     let mut words = [0u32; VECTOR_WORDS];
-    match read_vector(&mut words) {
+    match read_vector(input, &mut words)? {
         Input::Words(count) => {
             if agrees(&words, count) {
-                return Outcome::Agrees;
+                return Ok(Outcome::Agrees);
             }
-            Outcome::Differs
+            Ok(Outcome::Differs)
         }
-        Input::Broken => Outcome::Broken,
-        Input::End => Outcome::End,
+        Input::Broken => Ok(Outcome::Broken),
+        Input::End => Ok(Outcome::End),
     }
 }
 
 // Runs vectors until the count 0, the end of the input or a broken one; no input has more than a count holds.
-pub(crate) fn run_all() -> Tally {
+pub(crate) fn run_all(input: &mut impl Read) -> io::Result<Tally> {
     let mut vectors = 0;
     let mut agree = 0;
     while vectors < u64::MAX {
-        match run_next() {
-            Outcome::End => return Tally { vectors, agree },
+        match run_next(input)? {
+            Outcome::End => return Ok(Tally { vectors, agree }),
             Outcome::Broken => {
-                return Tally {
+                return Ok(Tally {
                     vectors: vectors + 1,
                     agree,
-                };
+                });
             }
             Outcome::Agrees => agree += 1,
             Outcome::Differs => {}
         }
         vectors += 1;
     }
-    Tally { vectors, agree }
+    Ok(Tally { vectors, agree })
 }
