@@ -242,13 +242,13 @@ module _ {image : List ℕ} {layout : Layout} {block : ℕ} {shape : Shape} {at 
 
   module _ (v : Verdict) (decides : Decides shape (turned_sums (mark (rows shape) r) sums) v) where
     judged : v ≡ verdict_of shape turned
-    judged = decided shape turned turned_long (one.second-are shape found size r low high looked.are) decides
+    judged = decided shape turned turned_long (one.second_are shape found size r low high looked.are) decides
 
     pub one_lost : (e b : ℕ) → v ≡ Lost e b → (e + b ≤ 32) × Mends image layout block shape (r ∷ []) (answers.LostAround (e + b)) image
     one_lost e b says =
         let lost = lost_lanes_lem shape turned e b (sym judged ∙ says) in (
           omega (arith, lost, few_lost shape turned),
-          lost_mends looked r [] (e + b) (lost ∙ one.lost-turned shape found size r low high looked.are)
+          lost_mends looked r [] (e + b) (lost ∙ one.lost_turned shape found size r low high looked.are)
               (λ z. lost_some shape turned v judged e b says (sym lost ∙ z)),
         )
 
@@ -257,7 +257,7 @@ module _ {image : List ℕ} {layout : Layout} {block : ℕ} {shape : Shape} {at 
       none = not_lost shape turned v judged kept
 
       none_around : lanes_lost_around shape (r ∷ []) found ≡ 0
-      none_around = sym (one.lost-turned shape found size r low high looked.are) ∙ none
+      none_around = sym (one.lost_turned shape found size r low high looked.are) ∙ none
 
       now_placed : now ≡ placed layout block turned image
       now_placed = flipped ∙ flip_placed looked found image (code_held looked) (sym (placed_gathered layout block image)) r low high wrong_in
@@ -273,7 +273,7 @@ module _ {image : List ℕ} {layout : Layout} {block : ℕ} {shape : Shape} {at 
           (sym (one.one_outside shape found size r low high looked.are none ∙ ap ones no-left))
           turned now turned_held.0
           (λ j h.
-          ap (λ (b : List ℕ). get_or b j 0) (sym (one.one-alone shape found size r low high looked.are none no-left))
+          ap (λ (b : List ℕ). get_or b j 0) (sym (one.one_alone shape found size r low high looked.are none no-left))
           ∙ one.one_rows shape found size r low high looked.are none j h)
           now_placed
 
@@ -318,7 +318,7 @@ module _ {image : List ℕ} {layout : Layout} {block : ℕ} {shape : Shape} {at 
   module _ {told : Told} {left : List ℕ} (solved : Solves sums (mark (rows shape) a) (mark (rows shape) b) (mark (rows shape) c) told left) where
     pub more_lost : any_of 7 left < 2 ^ 32 → (any_of 7 left ≡ 0 → ⊥)
         → Mends image layout block shape (more_rows a b c) (answers.LostAround (ones (any_of 7 left))) image
-    more_lost small some = by c (more.lost-count shape seen (long looked) three looked.are solved small)
+    more_lost small some = by c (more.lost_count shape seen (long looked) three looked.are solved small)
       where
         by : (c : ℕ) → ones (any_of 7 left) ≡ lanes_lost_around shape (more_rows a b c) seen
             → Mends image layout block shape (more_rows a b c) (answers.LostAround (ones (any_of 7 left))) image
@@ -358,7 +358,7 @@ module _ {image : List ℕ} {layout : Layout} {block : ℕ} {shape : Shape} {at 
           (row_changed seen a told.a three.a-row.0 j (omega (arith, length_gathered layout block image, size)))
 
       counted : ones told.a + ones told.b + ones told.c ≡ bits_inside shape (more_rows a b c) seen (around_block shape (more_rows a b c) seen)
-      counted = sym (more.more-inside shape seen (long looked) three looked.are solved none fa fb fc)
+      counted = sym (more.more_inside shape seen (long looked) three looked.are solved none fa fb fc)
 
       -- mended, where the rows given are those changed so
       mended_so : (given after : List ℕ) → length given ≡ 72 → after ≡ placed layout block given image
@@ -367,9 +367,9 @@ module _ {image : List ℕ} {layout : Layout} {block : ℕ} {shape : Shape} {at 
           → Mends image layout block shape (more_rows a b c) (answers.Mended (ones told.a + ones told.b + ones told.c) 0) after
       mended_so given after size e row =
           mended_mends looked (more_rows a b c) (three_within (before shape) (before_small shape) three)
-          (more.more-none shape seen (long looked) three looked.are solved none fa fb fc)
+          (more.more_none shape seen (long looked) three looked.are solved none fa fb fc)
           (ones told.a + ones told.b + ones told.c) 0 counted
-          (sym (more.more-outside shape seen (long looked) three looked.are solved none fa fb fc))
+          (sym (more.more_outside shape seen (long looked) three looked.are solved none fa fb fc))
           given after size
           (λ j h.
           let x = pick (eqb (suc j) a) told.a in
@@ -377,7 +377,7 @@ module _ {image : List ℕ} {layout : Layout} {block : ℕ} {shape : Shape} {at 
           let z = pick (eqb (suc j) c) told.c in
           row j h ∙ ap (λ (w : ℕ). bit_xor w z) (xor_assoc (get_or seen j 0) x y) ∙ xor_assoc (get_or seen j 0) (bit_xor x y) z
           ∙ ap (bit_xor (get_or seen j 0)) (xor_assoc x y z)
-          ∙ more.more-row shape seen (long looked) three looked.are solved none fa fb fc j h)
+          ∙ more.more_row shape seen (long looked) three looked.are solved none fa fb fc j h)
           e
 
       -- two rows

@@ -195,11 +195,11 @@ module _ (shape : Shape) (block : List ℕ) (long : rows shape ≤ length block)
         (sum_same m (lane i turned) (row.turned m r low high f) (λ j h. lane_turned j (omega arith)))
 
     lost_lane : lost? (decide m (lane i turned)) ≡ lane_lost? m (r ∷ []) f
-    lost_lane = ap lost? decided_same ∙ row.turned-lost m r low high f
+    lost_lane = ap lost? decided_same ∙ row.turned_lost m r low high f
 
     odd_lane : odd (suc m) (lane i turned) ≡ bit i left_in
     odd_lane =
-        ap (bit 0) (count_same (suc m) (lane i turned) (row.turned m r low high f) lane_turned) ∙ row.turned-odd m r low high f ∙ sym left_bit
+        ap (bit 0) (count_same (suc m) (lane i turned) (row.turned m r low high f) lane_turned) ∙ row.turned_odd m r low high f ∙ sym left_bit
 
   -- ---- the sums are those of the block with the row changed
 
@@ -249,7 +249,7 @@ module _ (shape : Shape) (block : List ℕ) (long : rows shape ≤ length block)
     change_meant i hi =
         meant_same m (r ∷ []) (lane i block) (diff (lane i block) (row.change m r low high (lane i block))) (diff (lane i block) (λ p. bit i (change p)))
         (λ j h. ap (λ (t : Bool). lane i block (suc j) ⊕ t) (sym (change_bit i hi (suc j))))
-        (row.change-meant m r low high (lane i block) (kept i hi))
+        (row.change_meant m r low high (lane i block) (kept i hi))
 
     few : length (r ∷ []) ≤ 3
     few = omega arith
@@ -274,7 +274,7 @@ module _ (shape : Shape) (block : List ℕ) (long : rows shape ≤ length block)
         (λ i hi.
         count_same (rows shape) (λ p. among? (r ∷ []) p && bit i (change p)) (λ p. among? (r ∷ []) p && row.change m r low high (lane i block) p)
         (λ j h. ap (λ (t : Bool). among? (r ∷ []) (suc j) && t) (change_bit i hi (suc j)))
-        ∙ row.count-inside m r low high (lane i block) (kept i hi)
+        ∙ row.count_inside m r low high (lane i block) (kept i hi)
         ∙ ap (λ (t : Bool). pick t 1) (sym (wrong_bit i hi)))
         ∙ sym (ones_total 32 wrong_in wrong_fit)
 
@@ -285,8 +285,8 @@ module _ (shape : Shape) (block : List ℕ) (long : rows shape ≤ length block)
         (λ i hi.
         count_same (rows shape) (λ p. not (among? (r ∷ []) p) && bit i (change p)) (λ p. not (among? (r ∷ []) p) && row.change m r low high (lane i block) p)
         (λ j h. ap (λ (t : Bool). not (among? (r ∷ []) (suc j)) && t) (change_bit i hi (suc j)))
-        ∙ row.count-outside m r low high (lane i block) (kept i hi)
-        ∙ ap (λ (t : Bool). pick t 1) (row.turned-odd m r low high (lane i block) ∙ sym (left_bit i hi)))
+        ∙ row.count_outside m r low high (lane i block) (kept i hi)
+        ∙ ap (λ (t : Bool). pick t 1) (row.turned_odd m r low high (lane i block) ∙ sym (left_bit i hi)))
         ∙ sym (ones_total 32 left_in left_fit)
 
     -- where no sum is left, the row alone is changed

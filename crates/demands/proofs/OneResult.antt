@@ -155,10 +155,10 @@ pub one_rota_fresh : {a b : Rota} → IsFresh a → IsFresh b → a ≡ b
 one_rota_fresh p q = same p q
 
 pub one_rota_ask : (n : ℕ) (rota : Rota) (block : ℕ) {a b : RotaAsked} → RotaAsks n rota block a → RotaAsks n rota block b → a ≡ b
-one_rota_ask n rota block p q = rotaNumbers.one-asked n rota block p q
+one_rota_ask n rota block p q = rotaNumbers.one_asked n rota block p q
 
 pub one_rota_turn : (n : ℕ) (rota : Rota) {a b : RotaTurned} → RotaTurns n rota a → RotaTurns n rota b → a ≡ b
-one_rota_turn n rota p q = rotaNumbers.one-turned n rota p q
+one_rota_turn n rota p q = rotaNumbers.one_turned n rota p q
 
 -- ---- patrol
 

@@ -83,7 +83,7 @@ module _ (r : Record) where
     ask_number_lem = go (layout_refusal r.layout)
       where
         go : (number : ℕ) → place_number (asked_by r block number).place ≡ number then ask_number (blocks r.layout) r.rota block
-        go zero = rotaNumbers.ask-number (blocks r.layout) r.rota block
+        go zero = rotaNumbers.ask_number_lem (blocks r.layout) r.rota block
         go (suc number) = refl
 
     pub ask_numbered : (asked r block).place ≡ NoPlace 0 → ⊥
@@ -91,7 +91,7 @@ module _ (r : Record) where
     ask_numbered = go (layout_refusal r.layout)
       where
         go : (number : ℕ) → (asked_by r block number).place ≡ NoPlace 0 → ⊥
-        go zero e = rotaNumbers.ask-numbered (blocks r.layout) r.rota block e
+        go zero e = rotaNumbers.ask_numbered (blocks r.layout) r.rota block e
         go (suc number) e = let z : suc number ≡ 0 = ap place_number e in omega arith
 
   -- ---- turn
@@ -102,7 +102,7 @@ module _ (r : Record) where
     turn_number_lem = go (image_refusal (length image) r.layout)
       where
         go : (number : ℕ) → report_number (turned_by r image number).report ≡ number then turn_number (blocks r.layout) r.rota
-        go zero = reported_number r.layout image (turned_now r).due ∙ rotaNumbers.turn-number (blocks r.layout) r.rota
+        go zero = reported_number r.layout image (turned_now r).due ∙ rotaNumbers.turn_number_lem (blocks r.layout) r.rota
         go (suc number) = refl
 
     pub turn_numbered : (turned r image).report ≡ Refused 0 → ⊥
@@ -110,5 +110,5 @@ module _ (r : Record) where
     turn_numbered = go (image_refusal (length image) r.layout)
       where
         go : (number : ℕ) → (turned_by r image number).report ≡ Refused 0 → ⊥
-        go zero e = rotaNumbers.turn-numbered (blocks r.layout) r.rota (reported_refused r.layout image (turned_now r).due e)
+        go zero e = rotaNumbers.turn_numbered (blocks r.layout) r.rota (reported_refused r.layout image (turned_now r).due e)
         go (suc number) e = let z : suc number ≡ 0 = ap report_number e in omega arith

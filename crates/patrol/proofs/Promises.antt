@@ -6,7 +6,6 @@ use mathlib.Core.List.{List, [], ◌∷◌}
 use lib.ListN.{length}
 use Rattle.ground.specs.Choice.{if_zero}
 use Rattle.ground.specs.Ladder.{◌then◌}
-use Rattle.block.specs.declared.Verdict.{Verdict}
 use Rattle.block.specs.Verdict.{Said}
 use Rattle.block.proofs.Verdicts.{verdict_says}
 use Rattle.layout.specs.declared.Layout.{Layout}
@@ -24,12 +23,11 @@ use Rattle.patrol.specs.declared.Record.{Record}
 use Rattle.patrol.specs.declared.Formatted.{Formatted}
 use Rattle.patrol.specs.declared.Asked.{Asked}
 use Rattle.patrol.specs.declared.Turned.{Turned}
-use Rattle.patrol.specs.declared.Report.{Report}
 use Rattle.patrol.specs.declared.Report.TheVariants.{Refused}
-use Rattle.patrol.specs.Numbers.{Seen, seen_of, unseen, report_first, report_second}
+use Rattle.patrol.specs.Numbers.{seen_of, unseen, report_first, report_second}
 use Rattle.patrol.specs.Format.{formatted, Formats}
-use Rattle.patrol.specs.Ask.{with_rota, with_ask, asked, asked_by, ask_refused, Asks}
-use Rattle.patrol.specs.Turn.{with_turn, seen_in, ask_seen, ask_visited, seen, visited, reported, patrolled, turned, turned_by, turn_after, turn_refused, Turns}
+use Rattle.patrol.specs.Ask.{with_rota, with_ask, asked, Asks}
+use Rattle.patrol.specs.Turn.{with_turn, seen_in, ask_seen, ask_visited, seen, visited, reported, patrolled, turned, turn_after, Turns}
 use Rattle.patrol.proofs.Numbers.{reports_told, ask_number_lem, ask_numbered, turn_number_lem, turn_numbered}
 
 -- ---- format
@@ -100,8 +98,8 @@ module _ (r : Record) (image : List ℕ) where
   turned_with number later l =
       if_zero number
       (record {
-        report = reported r.layout image (rotaNumbers.turnBy (blocks r.layout) r.rota later l).due;
-        back = with_rota r (rotaNumbers.turnBy (blocks r.layout) r.rota later l).rota;
+        report = reported r.layout image (rotaNumbers.turn_by (blocks r.layout) r.rota later l).due;
+        back = with_rota r (rotaNumbers.turn_by (blocks r.layout) r.rota later l).rota;
       })
       (record { report = Refused number; back = r })
 
@@ -152,7 +150,7 @@ module _ (r : Record) (image : List ℕ) where
       back (suc number) later l = refl
 
       leaves : (number later : ℕ) (l : List ℕ)
-          → if_zero number (patrolled r.layout image (rotaNumbers.turnBy (blocks r.layout) r.rota later l).due) image
+          → if_zero number (patrolled r.layout image (rotaNumbers.turn_by (blocks r.layout) r.rota later l).due) image
           ≡ if_zero (number then later) (ask_visited r.layout image next l) image
       leaves zero zero [] = refl
       leaves zero zero (a ∷ l) = refl

@@ -29,10 +29,10 @@ module _ (r : Record) where
   ask_first block =
       rw (ask_number_lem r block)
       (first_then (layout_rules r.layout) (rota_ask_rules (blocks r.layout) r.rota block) _ _ tt (layout_first r.layout)
-      (rotaReasons.ask-first (blocks r.layout) r.rota block))
+      (rotaReasons.ask_first (blocks r.layout) r.rota block))
 
   pub turn_first : (image : List ℕ) → FirstOf (turn_rules r (length image)) (report_number (turned r image).report)
   turn_first image =
       rw (turn_number_lem r image)
       (first_then (image_rules (length image) r.layout) (rota_turn_rules (blocks r.layout) r.rota) _ _ tt (image_first r.layout (length image))
-      (rotaReasons.turn-first (blocks r.layout) r.rota))
+      (rotaReasons.turn_first (blocks r.layout) r.rota))

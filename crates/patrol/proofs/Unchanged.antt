@@ -37,7 +37,7 @@ module _ (r : Record) where
       go : (number later : ℕ) → ask_number (blocks r.layout) r.rota block ≡ later → (number then later ≡ 0 → ⊥) → (asked_by r block number).back ≡ r
       go zero zero e some = absurd (some refl)
       go zero (suc later) e some =
-          ap (λ (a : RotaAsked). with_rota r a.rota) (rotaNumbers.ask-refused (blocks r.layout) r.rota block later e)
+          ap (λ (a : RotaAsked). with_rota r a.rota) (rotaNumbers.ask_refused_lem (blocks r.layout) r.rota block later e)
       go (suc number) later e some = refl
 
   pub turn_unchanged : (image : List ℕ) → (report_number (turned r image).report ≡ 0 → ⊥) → ((turned r image).back ≡ r) × (turn_after r image ≡ image)
@@ -49,6 +49,6 @@ module _ (r : Record) where
           → ((turned_by r image number).back ≡ r) × (if_zero number (patrolled r.layout image (turned_now r).due) image ≡ image)
       go zero zero e some = absurd (some refl)
       go zero (suc later) e some =
-          let kept = rotaNumbers.turn-refused (blocks r.layout) r.rota later e in
+          let kept = rotaNumbers.turn_refused_lem (blocks r.layout) r.rota later e in
           (ap (λ (a : RotaTurned). with_rota r a.rota) kept, ap (λ (a : RotaTurned). patrolled r.layout image a.due) kept)
       go (suc number) later e some = (refl, refl)
