@@ -1,6 +1,5 @@
 -- `report::reporting::inspect` meets its contract: the image has room for the words, and the array for the report. Assumes nothing.
 use native.Mathlib.Omega.{arith}
-use borrow.Author.Rules.{rules}
 use Rattle.report.proofs.Whole.{report_whole}
 use Rattle.report.proofs.reporting.inspect.Goals as goal
 

@@ -1,11 +1,9 @@
 -- `report::reporting::report_image` meets its contract. The loop's invariant: the blocks below k are visited, their lines written and counted. Assumes nothing.
-use Prim.Native.Nat.{ℕ, ◌≤◌, ◌<◌, ◌-◌}
+use Prim.Native.Nat.{ℕ, ◌≤◌, ◌<◌}
 use mathlib.Core.Path.{◌≡◌, refl, sym, ap, ap₂, ◌∙◌}
 use mathlib.Core.List.{List}
 use native.Mathlib.Omega.{arith}
 use native.Mathlib.Numerals.{add-one}
-use borrow.Author.Rules.{rules}
-use lib.ListN.{length}
 use Rattle.block.specs.declared.Verdict.{Verdict}
 use Rattle.block.specs.Verdict.{verdict_count}
 use Rattle.store.specs.declared.Answer.{Answer}
@@ -93,15 +91,15 @@ loop-k-preserved c =
           ∙ ap₂ written (ap (block_line k) verdict) c.loop-k.invariant.2
           ∙ sym (written_last (lines k) (block_line k (verdicts k)) _),
       c.count-tally.ensures ∙ ap₂ counted verdict c.loop-k.invariant.3,
-      visit.kept.0 ∙ c.loop-k.invariant.4,
-      line.auto.1.1.0 ∙ c.loop-k.invariant.5,
+      visit.auto.image ∙ c.loop-k.invariant.4,
+      line.auto.out ∙ c.loop-k.invariant.5,
     )
 
 pub shape_of-image : goal.shape_of-image
 shape_of-image c = c.loop-k.invariant.4
 
 pub shape_of-out : goal.shape_of-out
-shape_of-out c = c.total_line.auto.1.0 ∙ c.loop-k.invariant.5 ∙ c.image_line-at.kept.1.1.0
+shape_of-out c = c.total_line.auto.out ∙ c.loop-k.invariant.5 ∙ c.image_line-at.auto.out
 
 pub returns : goal.returns
 unfolding image_report written_all
