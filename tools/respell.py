@@ -32,7 +32,7 @@ def files(ending):
 
 
 def is_function_proof(path):
-    return os.path.basename(path) in ("Proof.antt", "Answers.antt", "Invariants.antt")
+    return "/" in os.path.relpath(path, TOP).partition("/proofs/")[2]
 
 
 def respelled(name):

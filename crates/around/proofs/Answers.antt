@@ -39,26 +39,26 @@ said_told (LostAround m) (Lost l k) ne e w = let z : ◌≡◌ {A = ℕ} 1 2 = a
 said_told (LostAround m) (LostAround n) ne e w = ap LostAround (ap (λ (l : List ℕ). get_or l 0 0) w)
 
 -- a refusal says nothing, and what says nothing is one
-unsaid-refused : (a : Around) → around_verdict a ≡ 0 → a ≡ Refused (around_number a)
-unsaid-refused (Refused n) e = refl
-unsaid-refused Clean e = absurd (omega arith)
-unsaid-refused (Mended i o) e = absurd (omega arith)
-unsaid-refused (Lost l k) e = absurd (omega arith)
-unsaid-refused (LostAround n) e = absurd (omega arith)
+unsaid_refused : (a : Around) → around_verdict a ≡ 0 → a ≡ Refused (around_number a)
+unsaid_refused (Refused n) e = refl
+unsaid_refused Clean e = absurd (omega arith)
+unsaid_refused (Mended i o) e = absurd (omega arith)
+unsaid_refused (Lost l k) e = absurd (omega arith)
+unsaid_refused (LostAround n) e = absurd (omega arith)
 
-pub around-told : (a b : Around) → around_number a ≡ around_number b → around_said a ≡ around_said b → a ≡ b
-around-told a b n s = by (around_verdict a) refl
+pub around_told : (a b : Around) → around_number a ≡ around_number b → around_said a ≡ around_said b → a ≡ b
+around_told a b n s = by (around_verdict a) refl
   where
     verdicts : around_verdict a ≡ around_verdict b
     verdicts = ap (λ (said : SaidAround). said.verdict) s
 
     by : (v : ℕ) → around_verdict a ≡ v → a ≡ b
-    by zero e = unsaid-refused a e ∙ ap Refused n ∙ sym (unsaid-refused b (sym verdicts ∙ e))
+    by zero e = unsaid_refused a e ∙ ap Refused n ∙ sym (unsaid_refused b (sym verdicts ∙ e))
     by (suc v) e = said_told a b (λ z. omega arith) verdicts (ap (λ (said : SaidAround). said.counts) s)
 
 -- one answer has the numbers
-pub around-one : {refusal : ℕ} {said : SaidAround} (a b : Around) → AnswersAround refusal said a → AnswersAround refusal said b → a ≡ b
-around-one a b p q = around-told a b (p.number ∙ sym q.number) (p.says ∙ sym q.says)
+pub around_one : {refusal : ℕ} {said : SaidAround} (a b : Around) → AnswersAround refusal said a → AnswersAround refusal said b → a ≡ b
+around_one a b p q = around_told a b (p.number ∙ sym q.number) (p.says ∙ sym q.says)
 
 -- ---- what the block's answer says
 
@@ -76,30 +76,30 @@ number_by named zero kinds (suc i) o = refl
 number_by [] (suc lost) kinds i o = refl
 number_by (r ∷ named) (suc lost) kinds i o = refl
 
-some-by : (named : List ℕ) (lost : ℕ) (kinds : Kind → ℕ) (i o : ℕ) → around_verdict (around_by named lost kinds i o) ≡ 0 → ⊥
-some-by named zero kinds zero zero e = omega arith
-some-by named zero kinds zero (suc o) e = omega arith
-some-by named zero kinds (suc i) o e = omega arith
-some-by [] (suc lost) kinds i o e = omega arith
-some-by (r ∷ named) (suc lost) kinds i o e = omega arith
+some_by : (named : List ℕ) (lost : ℕ) (kinds : Kind → ℕ) (i o : ℕ) → around_verdict (around_by named lost kinds i o) ≡ 0 → ⊥
+some_by named zero kinds zero zero e = omega arith
+some_by named zero kinds zero (suc o) e = omega arith
+some_by named zero kinds (suc i) o e = omega arith
+some_by [] (suc lost) kinds i o e = omega arith
+some_by (r ∷ named) (suc lost) kinds i o e = omega arith
 
 module _ (shape : Shape) (named block : List ℕ) where
   abbrev lost : ℕ
   lost = lanes_lost_around shape named block
 
-  abbrev bitsIn : ℕ
-  bitsIn = bits_inside shape named block (around_block shape named block)
+  abbrev bits_in : ℕ
+  bits_in = bits_inside shape named block (around_block shape named block)
 
-  abbrev bitsOut : ℕ
-  bitsOut = bits_outside shape named block (around_block shape named block)
+  abbrev bits_out : ℕ
+  bits_out = bits_outside shape named block (around_block shape named block)
 
   -- where nothing is refused the answer is the block's, and else the refusal
-  pub answers-around : (refusal : ℕ) → AnswersAround refusal (to_say_around shape named block) (if_zero refusal (around_of shape named block) (Refused refusal))
+  pub answers_around : (refusal : ℕ) → AnswersAround refusal (to_say_around shape named block) (if_zero refusal (around_of shape named block) (Refused refusal))
   unfolding around_of to_say_around
-  answers-around zero =
+  answers_around zero =
       record {
-        number = number_by named lost (lanes_lost_as shape block) bitsIn bitsOut;
-        says = said_by_lem named lost (lanes_lost_as shape block) bitsIn bitsOut;
-        numbered = λ e. some-by named lost (lanes_lost_as shape block) bitsIn bitsOut (ap around_verdict e);
+        number = number_by named lost (lanes_lost_as shape block) bits_in bits_out;
+        says = said_by_lem named lost (lanes_lost_as shape block) bits_in bits_out;
+        numbered = λ e. some_by named lost (lanes_lost_as shape block) bits_in bits_out (ap around_verdict e);
       }
-  answers-around (suc refusal) = record { number = refl; says = refl; numbered = λ e. let z : suc refusal ≡ 0 = ap around_number e in omega arith }
+  answers_around (suc refusal) = record { number = refl; says = refl; numbered = λ e. let z : suc refusal ≡ 0 = ap around_number e in omega arith }

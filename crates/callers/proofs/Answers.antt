@@ -16,37 +16,37 @@ use Rattle.patrol.specs.Ask.{asked}
 use Rattle.patrol.specs.Turn.{turned}
 use Rattle.patrol.specs.Numbers.{Seen, report_number, report_words, seen_words}
 use Rattle.patrol.proofs.Promises.{asks, turns}
-use Rattle.words.specs.Answers.{visitWidth}
+use Rattle.words.specs.Answers.{visit_width}
 use Rattle.words.specs.Records.{record_of}
 use Rattle.foldgrebe.specs.Calls.{WriteCall, ReadCall, VisitCall, AskCall, TurnCall}
 use Rattle.demands.specs.Demand3.{PatrolVisits, AskVisits}
 
-pub write-said : {image list after : List ℕ} {layout : Layout} {block number : ℕ} → WriteCall image layout block list number after
+pub write_said : {image list after : List ℕ} {layout : Layout} {block number : ℕ} → WriteCall image layout block list number after
     → number ≡ answer_number (write_answer image layout block list)
-write-said {image} {list} {after} {layout} {block} c = c.answers ∙ sym (writes image layout block list refl refl).answers.number
+write_said {image} {list} {after} {layout} {block} c = c.answers ∙ sym (writes image layout block list refl refl).answers.number
 
-pub read-said : {image buffer kept after verdict : List ℕ} {layout : Layout} {block number : ℕ}
+pub read_said : {image buffer kept after verdict : List ℕ} {layout : Layout} {block number : ℕ}
     → ReadCall image layout block buffer number kept after verdict
     → (number ≡ answer_number (read_answer image layout block buffer)) × (verdict ≡ answer_words (read_answer image layout block buffer))
-read-said {image} {buffer} {kept} {after} {verdict} {layout} {block} c =
+read_said {image} {buffer} {kept} {after} {verdict} {layout} {block} c =
     let said = (reads image layout block buffer refl refl).answers in
     (c.answers ∙ sym said.number, c.says ∙ ap said_words (sym said.says))
 
-pub visit-said : {image after verdict : List ℕ} {layout : Layout} {block number : ℕ} → VisitCall image layout block number after verdict
+pub visit_said : {image after verdict : List ℕ} {layout : Layout} {block number : ℕ} → VisitCall image layout block number after verdict
     → (number ≡ answer_number (visit_answer image layout block)) × (verdict ≡ answer_words (visit_answer image layout block))
-visit-said {image} {after} {verdict} {layout} {block} c =
+visit_said {image} {after} {verdict} {layout} {block} c =
     let said = (visits image layout block refl refl).answers in
     (c.answers ∙ sym said.number, c.says ∙ ap said_words (sym said.says))
 
-pub ask-said : {lent words place : List ℕ} {block number : ℕ} → AskCall lent block number words place
+pub ask_said : {lent words place : List ℕ} {block number : ℕ} → AskCall lent block number words place
     → (number ≡ place_number (asked (record_of lent) block).place) × (place ≡ place_given (asked (record_of lent) block).place ∷ [])
-ask-said {lent} {words} {place} {block} c =
+ask_said {lent} {words} {place} {block} c =
     let said = asks (record_of lent) block refl in
     (c.answers ∙ sym said.number, c.says ∙ ap (λ (k : ℕ). k ∷ []) (sym said.place))
 
-pub turn-said : {lent image words after report : List ℕ} {number : ℕ} → TurnCall lent image number words after report
+pub turn_said : {lent image words after report : List ℕ} {number : ℕ} → TurnCall lent image number words after report
     → (number ≡ report_number (turned (record_of lent) image).report) × (report ≡ report_words (turned (record_of lent) image).report)
-turn-said {lent} {image} c =
+turn_said {lent} {image} c =
     let said = turns (record_of lent) image refl refl in (
       c.answers ∙ sym said.number,
       c.says ∙ ap₂ (λ (first second : Seen). seen_words first ++ seen_words second) (sym said.first) (sym said.second),
@@ -54,10 +54,10 @@ turn-said {lent} {image} c =
 
 -- ---- what the words of a report name
 
-pub patrol-named : (block : ℕ) (report : Report) → PatrolVisits block report
+pub patrol_named : (block : ℕ) (report : Report) → PatrolVisits block report
     → (report_number report ≡ 0) × (get_or (report_words report) 0 0 ≡ block) × (get_or (report_words report) 1 0 ≡ 0 → ⊥)
-patrol-named block report h = (h.0, h.1.0, h.1.1)
+patrol_named block report h = (h.0, h.1.0, h.1.1)
 
-pub ask-named : (block : ℕ) (report : Report) → AskVisits block report
-    → (report_number report ≡ 0) × (get_or (report_words report) visitWidth 0 ≡ block) × (get_or (report_words report) (suc visitWidth) 0 ≡ 0 → ⊥)
-ask-named block report h = (h.0, h.1.0, h.1.1)
+pub ask_named : (block : ℕ) (report : Report) → AskVisits block report
+    → (report_number report ≡ 0) × (get_or (report_words report) visit_width 0 ≡ block) × (get_or (report_words report) (suc visit_width) 0 ≡ 0 → ⊥)
+ask_named block report h = (h.0, h.1.0, h.1.1)

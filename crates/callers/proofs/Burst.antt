@@ -14,7 +14,7 @@ use Rattle.demands.specs.Demand3.{store}
 use Rattle.demands.specs.Burst.{VisitsInOrder, OnTheWay}
 use Rattle.demands.proofs.Bursts.{bursts}
 use Rattle.callers.specs.Burst.{VisitCalls, CallerOnTheWay, CallerBursts}
-use Rattle.callers.proofs.Answers.{read-said, visit-said, turn-said}
+use Rattle.callers.proofs.Answers.{read_said, visit_said, turn_said}
 use Rattle.callers.proofs.Followed.{held, followed}
 
 in_order : (layout : Layout) (order image after : List ℕ) → VisitCalls layout order image after → VisitsInOrder layout order image after
@@ -43,9 +43,9 @@ caller_bursts =
       none_lost = λ {layout} {image} {now} way {block} c says.
           bursts.none_lost layout image now (on_the_way layout image now way) block (visit_answer now layout block) (visit_after now layout block)
           (visits now layout block refl refl)
-          (sym (first_word (visit-said c).1) ∙ says);
+          (sym (first_word (visit_said c).1) ∙ says);
       accepted = λ {layout} {image} {now} way {block} c inside.
-          (visit-said c).0
+          (visit_said c).0
           ∙ bursts.accepted layout image now (on_the_way layout image now way) block (visit_answer now layout block) (visit_after now layout block)
           (visits now layout block refl refl)
           inside;
@@ -54,8 +54,8 @@ caller_bursts =
           bursts.reads layout image now (on_the_way layout image now way) block buffer (read_answer now layout block buffer) now
           (read_buffer now layout block buffer)
           (reads now layout block buffer refl refl)
-          (sym (read-said c).0 ∙ z) in (
-            λ says. told.0 (sym (first_word (read-said c).1) ∙ says),
+          (sym (read_said c).0 ∙ z) in (
+            λ says. told.0 (sym (first_word (read_said c).1) ∙ says),
             c.leaves ∙ told.1,
           );
       round = λ image layout before spark since sparked enough earlier now was is.
@@ -65,7 +65,7 @@ caller_bursts =
       turns_none_lost = λ image layout before spark since sparked now is {number} {words} {after} {report} c.
           let state = store image layout (before ++ spark ++ since) in
           let h = followed image layout (before ++ spark ++ since) is in
-          let said : report ≡ report_words (turned state.patrol state.image).report = (turn-said c).1 ∙ rw (held h, h.image) in
+          let said : report ≡ report_words (turned state.patrol state.image).report = (turn_said c).1 ∙ rw (held h, h.image) in
           rw said
           (bursts.turns_none_lost image layout before spark since sparked (turned state.patrol state.image) (turn_after state.patrol state.image)
           (turns state.patrol state.image refl refl));

@@ -22,7 +22,7 @@ use Rattle.patrol.specs.Turn.{turned, turn_after, turn_refused, Turns}
 use Rattle.patrol.specs.Numbers.{Seen, unseen, seen_words, report_number, report_words}
 use Rattle.patrol.specs.Reason.{ask_rules, turn_rules}
 use Rattle.patrol.proofs.Promises.{formats, asks, turns}
-use Rattle.words.specs.Answers.{verdictWidth, visitWidth, reportWidth}
+use Rattle.words.specs.Answers.{verdict_width, visit_width, report_width}
 use Rattle.words.specs.Records.{record_width, record_of, record_words}
 use Rattle.words.proofs.RoundTrip.{same_words, same_record}
 use Rattle.foldgrebe.specs.Calls.{WriteCall, ReadCall, VisitCall, FormatCall, AskCall, TurnCall}
@@ -35,7 +35,7 @@ use Rattle.demands.proofs.Demand3.{demand_3}
 use Rattle.callers.specs.Handing.{Kept, RanFrom}
 use Rattle.callers.specs.Demands.{RoundTrips, CallerRefusing, CallerDemand1, CallerTurning, CallerDemand2, CallerDemand3}
 use Rattle.callers.specs.Demands.{CallerTurnsAccepted, CallerBlocksVisited, CallerAskServed, CallerReadsRight, CallerRuns}
-use Rattle.callers.proofs.Answers.{write-said, read-said, visit-said, ask-said, turn-said, patrol-named, ask-named}
+use Rattle.callers.proofs.Answers.{write_said, read_said, visit_said, ask_said, turn_said, patrol_named, ask_named}
 use Rattle.callers.proofs.Followed.{held, step_number, followed}
 use Rattle.callers.proofs.Running.{runs}
 
@@ -66,21 +66,21 @@ module _ {image : List ℕ} {layout : Layout} {block number : ℕ} where
       → CallerRefusing (Ruled (data_rules (length image) layout block (length list))) number (after ≡ image)
   write_refuses {list} c =
       let d = demand_1.write image layout block list _ _ (writes image layout block list refl refl) in
-      refusing (write-said c) d.ruled (λ ne. c.leaves ∙ d.unchanged ne)
+      refusing (write_said c) d.ruled (λ ne. c.leaves ∙ d.unchanged ne)
 
   read_refuses : {buffer kept after verdict : List ℕ} → ReadCall image layout block buffer number kept after verdict
       → CallerRefusing (Ruled (data_rules (length image) layout block (length buffer))) number
-      ((kept ≡ image) × (after ≡ buffer) × (verdict ≡ replicate verdictWidth 0))
+      ((kept ≡ image) × (after ≡ buffer) × (verdict ≡ replicate verdict_width 0))
   read_refuses {buffer} c =
       let d = demand_1.read image layout block buffer _ _ _ (reads image layout block buffer refl refl) in
-      let told = (read-said c).0 in
+      let told = (read_said c).0 in
       refusing told d.ruled (λ ne. (c.keeps, c.leaves ∙ d.unchanged ne, c.says ∙ none_said _ _ (λ z. ne (sym told ∙ c.answers ∙ z))))
 
   visit_refuses : {after verdict : List ℕ} → VisitCall image layout block number after verdict
-      → CallerRefusing (Ruled (block_rules (length image) layout block)) number ((after ≡ image) × (verdict ≡ replicate verdictWidth 0))
+      → CallerRefusing (Ruled (block_rules (length image) layout block)) number ((after ≡ image) × (verdict ≡ replicate verdict_width 0))
   visit_refuses c =
       let d = demand_1.visit image layout block _ _ (visits image layout block refl refl) in
-      let told = (visit-said c).0 in
+      let told = (visit_said c).0 in
       refusing told d.ruled (λ ne. (c.leaves ∙ d.unchanged ne, c.says ∙ none_said _ _ (λ z. ne (sym told ∙ c.answers ∙ z))))
 
 format_refuses : {image after words : List ℕ} {layout : Layout} {number : ℕ} → FormatCall image layout number after words
@@ -94,7 +94,7 @@ ask_refuses : {lent words place : List ℕ} {block number : ℕ} → length lent
     → CallerRefusing (Ruled (ask_rules (record_of lent) block)) number ((words ≡ lent) × (place ≡ 0 ∷ []))
 ask_refuses {lent} {words} {place} {block} size c =
     let d = demand_1.ask (record_of lent) block _ (asks (record_of lent) block refl) in
-    let told = ask-said c in
+    let told = ask_said c in
     refusing told.0 d.ruled
     (λ ne. (
       c.back ∙ lent_back lent size _ _ (λ z. ne (sym told.0 ∙ c.answers ∙ z)),
@@ -102,10 +102,10 @@ ask_refuses {lent} {words} {place} {block} size c =
     ))
 
 turn_refuses : {lent image words after report : List ℕ} {number : ℕ} → length lent ≡ record_width → TurnCall lent image number words after report
-    → CallerRefusing (Ruled (turn_rules (record_of lent) (length image))) number ((words ≡ lent) × (after ≡ image) × (report ≡ replicate reportWidth 0))
+    → CallerRefusing (Ruled (turn_rules (record_of lent) (length image))) number ((words ≡ lent) × (after ≡ image) × (report ≡ replicate report_width 0))
 turn_refuses {lent} {image} size c =
     let d = demand_1.turn (record_of lent) image _ _ (turns (record_of lent) image refl refl) in
-    let told = (turn-said c).0 in
+    let told = (turn_said c).0 in
     refusing told d.ruled
     (λ ne.
     let some : turn_refused (record_of lent) (length image) ≡ 0 → ⊥ = λ z. ne (sym told ∙ c.answers ∙ z) in (
@@ -124,21 +124,21 @@ module _ {image : List ℕ} {layout : Layout} {block number : ℕ} where
   visit_mends : {after verdict : List ℕ} → Fitting image → VisitCall image layout block number after verdict → number ≡ 0
       → (answer : Answer) × Visiting image layout block answer after × (verdict ≡ answer_words answer)
   visit_mends fits c z =
-      let told = visit-said c in
+      let told = visit_said c in
       let d = demand_2.visit image layout block _ _ fits (visits image layout block refl refl) (sym told.0 ∙ z) in
       (visit_answer image layout block, rw c.leaves d, told.1)
 
   write_stores : {list after : List ℕ} → Fitting list → WriteCall image layout block list number after → number ≡ 0
       → Writing image layout block list after
   write_stores {list} fits c z =
-      rw c.leaves (demand_2.write image layout block list _ _ fits (writes image layout block list refl refl) (sym (write-said c) ∙ z))
+      rw c.leaves (demand_2.write image layout block list _ _ fits (writes image layout block list refl refl) (sym (write_said c) ∙ z))
 
   read_mends : {buffer kept after verdict : List ℕ} → Fitting image → ReadCall image layout block buffer number kept after verdict → number ≡ 0
       → (kept ≡ image)
       × (answer : Answer) × Reading layout block buffer answer after (visit_answer image layout block) (visit_after image layout block)
       × (verdict ≡ answer_words answer)
   read_mends {buffer} fits c z =
-      let told = read-said c in
+      let told = read_said c in
       let d = demand_2.read image layout block buffer _ _ _ fits (reads image layout block buffer refl refl) (sym told.0 ∙ z) _ _
       (visits image layout block refl refl) in
       (c.keeps, read_answer image layout block buffer, rw c.leaves d, told.1)
@@ -153,19 +153,19 @@ turn_passes : {lent image words after report : List ℕ} {number : ℕ} → Turn
     → CallerTurning (record_of lent) report after visited between verdict
 turn_passes {lent} {image} {words} {after} {report} c z {between} {verdict} v =
     let r = record_of lent in
-    let told = turn-said c in
-    let said = visit-said v in
+    let told = turn_said c in
+    let said = visit_said v in
     let p = turns r image refl refl in
     let d = demand_2.turn r image _ _ p (sym told.0 ∙ z) _ _ (visits image r.layout r.rota.next refl v.leaves) in
     let left = c.leaves ∙ sym p.leaves in
     record {
       accepted = said.0 ∙ d.accepted;
-      first = ap (take visitWidth) told.1 ∙ seen_words_lem d.first said.1;
-      alone = λ e. let a = d.alone e in (ap (drop visitWidth) told.1 ∙ ap seen_words a.0, left ∙ a.1);
+      first = ap (take visit_width) told.1 ∙ seen_words_lem d.first said.1;
+      alone = λ e. let a = d.alone e in (ap (drop visit_width) told.1 ∙ ap seen_words a.0, left ∙ a.1);
       asked = λ block rest e {number} {last} {other} w.
-          let tells = visit-said w in
+          let tells = visit_said w in
           let a = d.asked block rest e _ _ (visits between r.layout block refl w.leaves) in
-          (tells.0 ∙ a.0, ap (drop visitWidth) told.1 ∙ seen_words_lem a.1 tells.1, left ∙ a.2);
+          (tells.0 ∙ a.0, ap (drop visit_width) told.1 ∙ seen_words_lem a.1 tells.1, left ∙ a.2);
     }
 
 pub caller_demand_2 : CallerDemand2
@@ -184,7 +184,7 @@ module _ (image : List ℕ) (layout : Layout) where
       → (number ≡ report_number (report (store image layout steps))) × (said ≡ report_words (report (store image layout steps)))
   reported steps now r number words after said c =
       let h = followed image layout steps r in
-      rw (← held h, ← h.image) (turn-said c)
+      rw (← held h, ← h.image) (turn_said c)
 
   -- what a turn of the state answers
   turned_so : (steps : List Step) → let state = store image layout steps in
@@ -198,7 +198,7 @@ module _ (image : List ℕ) (layout : Layout) where
   every_block_visited : CallerBlocksVisited image layout
   every_block_visited formatted before during none enough block inside =
       let found = demand_3.every_block_visited image layout formatted before during none enough block inside in
-      let named = patrol-named block (report (store image layout (before ++ found.0))) (found.3 _ _ (turned_so (before ++ found.0))) in (
+      let named = patrol_named block (report (store image layout (before ++ found.0))) (found.3 _ _ (turned_so (before ++ found.0))) in (
         found.0,
         found.1,
         found.2,
@@ -210,7 +210,7 @@ module _ (image : List ℕ) (layout : Layout) where
   ask_served : CallerAskServed image layout
   ask_served before between block none earlier was number words place c z k now r answer handed after said d =
       let h = followed image layout before was in
-      let heard = ask-said c in
+      let heard = ask_said c in
       let asking = rw (held h) at heard in
       let kth = k ∙ ap (λ (l : List ℕ). get_or l 0 0) asking.1 in
       let serves = demand_3.ask_served image layout before between block none _ (asks (store image layout before).patrol block refl)
@@ -219,14 +219,14 @@ module _ (image : List ℕ) (layout : Layout) where
       _
       _
       (turned_so (before ++ ask block ∷ between)) in
-      let named = ask-named block (report (store image layout (before ++ ask block ∷ between))) serves in
+      let named = ask_named block (report (store image layout (before ++ ask block ∷ between))) serves in
       let told = reported (before ++ ask block ∷ between) now r answer handed after said d in
       rw (told.0, told.1) named
 
   reads_right : CallerReadsRight image layout
   reads_right steps one words spaced none before rest named block buffer e now r number kept left verdict c z =
       let h = followed image layout before r in
-      let said = read-said c in
+      let said = read_said c in
       let told = rw h.image at said in
       let right = demand_3.reads_right image layout steps one words spaced none before rest named block buffer e _ _ _
       (reads (store image layout before).image named block buffer refl refl)

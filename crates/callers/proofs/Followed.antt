@@ -25,7 +25,7 @@ use Rattle.foldgrebe.specs.Calls.{FormatCall, AskCall, TurnCall}
 use Rattle.demands.specs.Steps.{Step, format, write, read, visit, ask, turn, flip, State, flipped, step_after, after, answers}
 use Rattle.demands.specs.Demand3.{store}
 use Rattle.callers.specs.Handing.{Kept, Called, Ran, RanFrom}
-use Rattle.callers.proofs.Answers.{write-said, read-said, visit-said, ask-said, turn-said}
+use Rattle.callers.proofs.Answers.{write_said, read_said, visit_said, ask_said, turn_said}
 
 -- what the caller keeps is a state's, as words
 pub record Holds (kept : Kept) (state : State) : Type 0 where
@@ -83,11 +83,11 @@ pub step_number : (step : Step) {number : ℕ} {old : Kept} (new : Kept) {state 
     → number ≡ answers step state
 step_number (format layout) {number} {old} new h c =
     (format_words old.image layout c.1).0 ∙ ap (λ (l : List ℕ). (formatted l layout).number) h.image
-step_number (write layout block list) new h c = write-said c.0 ∙ ap (λ (l : List ℕ). answer_number (write_answer l layout block list)) h.image
-step_number (read layout block buffer) new h c = (read-said c.2).0 ∙ ap (λ (l : List ℕ). answer_number (read_answer l layout block buffer)) h.image
-step_number (visit layout block) new h c = (visit-said c.1).0 ∙ ap (λ (l : List ℕ). answer_number (visit_answer l layout block)) h.image
-step_number (ask block) new h c = (ask-said c.1).0 ∙ ap (λ (r : Record). place_number (asked r block).place) (held h)
-step_number turn new h c = (turn-said c.1).0 ∙ rw (held h, h.image)
+step_number (write layout block list) new h c = write_said c.0 ∙ ap (λ (l : List ℕ). answer_number (write_answer l layout block list)) h.image
+step_number (read layout block buffer) new h c = (read_said c.2).0 ∙ ap (λ (l : List ℕ). answer_number (read_answer l layout block buffer)) h.image
+step_number (visit layout block) new h c = (visit_said c.1).0 ∙ ap (λ (l : List ℕ). answer_number (visit_answer l layout block)) h.image
+step_number (ask block) new h c = (ask_said c.1).0 ∙ ap (λ (r : Record). place_number (asked r block).place) (held h)
+step_number turn new h c = (turn_said c.1).0 ∙ rw (held h, h.image)
 step_number (flip index bit) new h c = c.0
 
 ran_held : (steps : List Step) {old new : Kept} {state : State} → Holds old state → Ran steps old new → Holds new (after steps state)

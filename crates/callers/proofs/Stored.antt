@@ -16,7 +16,7 @@ use Rattle.foldgrebe.specs.Calls.{FormatCall, ReadCall, VisitCall}
 use Rattle.demands.specs.StoredForm.{Dead, LostWhole}
 use Rattle.demands.proofs.StoredForm.{stored_form}
 use Rattle.callers.specs.Stored.{lost_whole, CallerStored}
-use Rattle.callers.proofs.Answers.{read-said, visit-said, turn-said}
+use Rattle.callers.proofs.Answers.{read_said, visit_said, turn_said}
 use Rattle.callers.proofs.Demands.{caller_demand_2}
 
 -- the words of what is said
@@ -32,19 +32,19 @@ module _ {image : List ℕ} {layout : Layout} {block number : ℕ} where
   visited_whole : {after verdict : List ℕ} (c : VisitCall image layout block number after verdict)
       → LostWhole (answer_said (visit_answer image layout block)) × (visit_after image layout block ≡ image)
       → (verdict ≡ lost_whole) × (after ≡ image)
-  visited_whole c d = ((visit-said c).1 ∙ whole_words _ d.0, c.leaves ∙ d.1)
+  visited_whole c d = ((visit_said c).1 ∙ whole_words _ d.0, c.leaves ∙ d.1)
 
   read_whole : {buffer kept after verdict : List ℕ} (c : ReadCall image layout block buffer number kept after verdict)
       → LostWhole (answer_said (read_answer image layout block buffer)) × (read_buffer image layout block buffer ≡ buffer)
       → (verdict ≡ lost_whole) × (kept ≡ image) × (after ≡ buffer)
-  read_whole c d = ((read-said c).1 ∙ whole_words _ d.0, c.keeps, c.leaves ∙ d.1)
+  read_whole c d = ((read_said c).1 ∙ whole_words _ d.0, c.keeps, c.leaves ∙ d.1)
 
 dead_visited : {image after verdict : List ℕ} {layout : Layout} {block number : ℕ} → Dead (length image) image
     → VisitCall image layout block number after verdict
     → number ≡ 0
     → (verdict ≡ lost_whole) × (after ≡ image)
 dead_visited {image} {after} {verdict} {layout} {block} dead c z =
-    visited_whole c (stored_form.dead_visit image layout block _ _ dead (visits image layout block refl refl) (sym (visit-said c).0 ∙ z))
+    visited_whole c (stored_form.dead_visit image layout block _ _ dead (visits image layout block refl refl) (sym (visit_said c).0 ∙ z))
 
 pub caller_stored : CallerStored
 caller_stored =
@@ -52,17 +52,17 @@ caller_stored =
       fresh_ones = λ c block p. stored_form.fresh_ones _ _ _ _ (formats_so c) block p;
       fresh_zeros = λ c block p. stored_form.fresh_zeros _ _ _ _ (formats_so c) block p;
       dead_block = λ {image} {after} {verdict} {layout} {block} fits dead c z.
-          visited_whole c (stored_form.dead_block image layout block _ _ fits dead (visits image layout block refl refl) (sym (visit-said c).0 ∙ z));
+          visited_whole c (stored_form.dead_block image layout block _ _ fits dead (visits image layout block refl refl) (sym (visit_said c).0 ∙ z));
       dead_block_read = λ {image} {buffer} {kept} {after} {verdict} {layout} {block} fits dead c z.
           read_whole c
-          (stored_form.dead_block_read image layout block buffer _ _ _ fits dead (reads image layout block buffer refl refl) (sym (read-said c).0 ∙ z));
+          (stored_form.dead_block_read image layout block buffer _ _ _ fits dead (reads image layout block buffer refl refl) (sym (read_said c).0 ∙ z));
       dead_visit = dead_visited;
       dead_read = λ {image} {buffer} {kept} {after} {verdict} {layout} {block} dead c z.
-          read_whole c (stored_form.dead_read image layout block buffer _ _ _ dead (reads image layout block buffer refl refl) (sym (read-said c).0 ∙ z));
+          read_whole c (stored_form.dead_read image layout block buffer _ _ _ dead (reads image layout block buffer refl refl) (sym (read_said c).0 ∙ z));
       dead_turn = λ {lent} {image} {words} {after} {report} dead c z.
           let r = record_of lent in
           let w = turns r image refl refl in
-          let d = stored_form.dead_turn r image _ _ dead w (sym (turn-said c).0 ∙ z) in
+          let d = stored_form.dead_turn r image _ _ dead w (sym (turn_said c).0 ∙ z) in
           let v : VisitCall image r.layout r.rota.next _ _ _ = record { answers = refl; leaves = refl; says = refl } in
           let t = caller_demand_2.turn c z v in
           let first = dead_visited dead v t.accepted in (

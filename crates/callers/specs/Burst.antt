@@ -5,7 +5,7 @@ use Rattle.layout.specs.declared.Layout.{Layout}
 use Rattle.layout.specs.Layout.{shape_of, blocks}
 use Rattle.block.specs.Block.{data_of}
 use Rattle.store.specs.Image.{stored_rows}
-use Rattle.words.specs.Answers.{visitWidth}
+use Rattle.words.specs.Answers.{visit_width}
 use Rattle.foldgrebe.specs.Calls.{ReadCall, VisitCall, TurnCall}
 use Rattle.demands.specs.Steps.{Step, turns}
 use Rattle.demands.specs.Burst.{Struck, EveryBlock, Sparked}
@@ -51,4 +51,4 @@ pub record CallerBursts : Type 0 where
   pub turns_none_lost : (image : List ℕ) (layout : Layout) (before spark since : List Step) → Sparked image layout before spark since
       → (now : Kept) → RanFrom image layout (before ++ spark ++ since) now
       → {number : ℕ} {words after report : List ℕ} → TurnCall now.words now.image number words after report
-      → (get_or report 1 0 ≡ 3 → ⊥) × (get_or report (suc visitWidth) 0 ≡ 3 → ⊥)
+      → (get_or report 1 0 ≡ 3 → ⊥) × (get_or report (suc visit_width) 0 ≡ 3 → ⊥)

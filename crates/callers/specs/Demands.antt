@@ -12,7 +12,7 @@ use Rattle.store.specs.Reason.{data_rules}
 use Rattle.store.specs.Visit.{visit_answer, visit_after}
 use Rattle.patrol.specs.declared.Record.{Record}
 use Rattle.patrol.specs.Reason.{ask_rules, turn_rules}
-use Rattle.words.specs.Answers.{verdictWidth, visitWidth, reportWidth}
+use Rattle.words.specs.Answers.{verdict_width, visit_width, report_width}
 use Rattle.words.specs.Records.{record_width, record_of, record_words}
 use Rattle.foldgrebe.specs.Calls.{WriteCall, ReadCall, VisitCall, FormatCall, AskCall, TurnCall}
 use Rattle.demands.specs.Demand2.{Visiting, Writing, Reading}
@@ -38,26 +38,26 @@ pub record CallerDemand1 : Type 1 where
   pub read : {image buffer kept after verdict : List ℕ} {layout : Layout} {block number : ℕ}
       → ReadCall image layout block buffer number kept after verdict
       → CallerRefusing (Ruled (data_rules (length image) layout block (length buffer))) number
-      ((kept ≡ image) × (after ≡ buffer) × (verdict ≡ replicate verdictWidth 0))
+      ((kept ≡ image) × (after ≡ buffer) × (verdict ≡ replicate verdict_width 0))
   pub visit : {image after verdict : List ℕ} {layout : Layout} {block number : ℕ} → VisitCall image layout block number after verdict
-      → CallerRefusing (Ruled (block_rules (length image) layout block)) number ((after ≡ image) × (verdict ≡ replicate verdictWidth 0))
+      → CallerRefusing (Ruled (block_rules (length image) layout block)) number ((after ≡ image) × (verdict ≡ replicate verdict_width 0))
   pub format : {image after words : List ℕ} {layout : Layout} {number : ℕ} → FormatCall image layout number after words
       → CallerRefusing (Ruled (image_rules (length image) layout)) number ((after ≡ image) × (words ≡ replicate record_width 0))
   pub ask : {lent words place : List ℕ} {block number : ℕ} → length lent ≡ record_width → AskCall lent block number words place
       → CallerRefusing (Ruled (ask_rules (record_of lent) block)) number ((words ≡ lent) × (place ≡ 0 ∷ []))
   pub turn : {lent image words after report : List ℕ} {number : ℕ} → length lent ≡ record_width → TurnCall lent image number words after report
-      → CallerRefusing (Ruled (turn_rules (record_of lent) (length image))) number ((words ≡ lent) × (after ≡ image) × (report ≡ replicate reportWidth 0))
+      → CallerRefusing (Ruled (turn_rules (record_of lent) (length image))) number ((words ≡ lent) × (after ≡ image) × (report ≡ replicate report_width 0))
 
 -- ---- demand 2: where the call is accepted, its words are those of an answer of which the demand holds, or a turn's those of its visits
 
 -- a turn's words are its blocks, each with the words that a visit of it gives: the block that is next, then the ask at place 1
 pub record CallerTurning (r : Record) (report after : List ℕ) (visited : ℕ) (between verdict : List ℕ) : Type 0 where
   pub accepted : visited ≡ 0
-  pub first : take visitWidth report ≡ r.rota.next ∷ verdict
-  pub alone : asks_of r.rota.line ≡ [] → (drop visitWidth report ≡ replicate visitWidth 0) × (after ≡ between)
+  pub first : take visit_width report ≡ r.rota.next ∷ verdict
+  pub alone : asks_of r.rota.line ≡ [] → (drop visit_width report ≡ replicate visit_width 0) × (after ≡ between)
   pub asked : (block : ℕ) (rest : List ℕ) → asks_of r.rota.line ≡ block ∷ rest
       → {number : ℕ} {last other : List ℕ} → VisitCall between r.layout block number last other
-      → (number ≡ 0) × (drop visitWidth report ≡ block ∷ other) × (after ≡ last)
+      → (number ≡ 0) × (drop visit_width report ≡ block ∷ other) × (after ≡ last)
 
 pub record CallerDemand2 : Type 0 where
   pub visit : {image after verdict : List ℕ} {layout : Layout} {block number : ℕ} → Fitting image → VisitCall image layout block number after verdict
@@ -114,7 +114,7 @@ module _ (image : List ℕ) (layout : Layout) where
       → turns between + 1 ≡ get_or place 0 0
       → (now : Kept) → RanFrom image layout (before ++ ask block ∷ between) now
       → (answer : ℕ) (handed after report : List ℕ) → TurnCall now.words now.image answer handed after report
-      → (answer ≡ 0) × (get_or report visitWidth 0 ≡ block) × (get_or report (suc visitWidth) 0 ≡ 0 → ⊥)
+      → (answer ≡ 0) × (get_or report visit_width 0 ≡ block) × (get_or report (suc visit_width) 0 ≡ 0 → ⊥)
 
   -- c: every accepted read is not lost, and leaves in the buffer the data last written to the block, or zeros
   abbrev pub CallerReadsRight : Type 0

@@ -9,7 +9,7 @@ use Rattle.rota.specs.Line.{asks_of}
 use Rattle.words.specs.Records.{record_of}
 use Rattle.foldgrebe.specs.Calls.{ReadCall, VisitCall, FormatCall, TurnCall}
 use Rattle.demands.specs.StoredForm.{RowIn, Dead}
-use Rattle.words.specs.Answers.{visitWidth}
+use Rattle.words.specs.Answers.{visit_width}
 
 -- the three words of a verdict: lost, 32 lanes even, none beyond the rows
 abbrev pub lost_whole : List ℕ
@@ -41,6 +41,6 @@ pub record CallerStored : Type 0 where
       → (verdict ≡ lost_whole) × (kept ≡ image) × (after ≡ buffer)
   pub dead_turn : {lent image words after report : List ℕ} {number : ℕ} → Dead (length image) image → TurnCall lent image number words after report
       → number ≡ 0
-      → (take visitWidth report ≡ (record_of lent).rota.next ∷ lost_whole)
-      × ((block : ℕ) (rest : List ℕ) → asks_of (record_of lent).rota.line ≡ block ∷ rest → drop visitWidth report ≡ block ∷ lost_whole)
+      → (take visit_width report ≡ (record_of lent).rota.next ∷ lost_whole)
+      × ((block : ℕ) (rest : List ℕ) → asks_of (record_of lent).rota.line ≡ block ∷ rest → drop visit_width report ≡ block ∷ lost_whole)
       × (after ≡ image)

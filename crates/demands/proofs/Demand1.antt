@@ -17,7 +17,7 @@ use Rattle.store.specs.Reason.{data_rules}
 use Rattle.store.specs.Write.{write_answer, write_after}
 use Rattle.store.specs.Read.{read_answer, read_buffer}
 use Rattle.store.specs.Visit.{visit_answer, visit_after}
-use Rattle.store.proofs.Answers.{answered-number, answered-refused}
+use Rattle.store.proofs.Answers.{answered_number, answered_refused}
 use Rattle.store.proofs.Ladder.{data_first}
 use Rattle.store.proofs.Promises.{writes_answer, reads_answer, visits_answer}
 use Rattle.store.specs.Fresh.{fresh_after}
@@ -36,7 +36,7 @@ use Rattle.demands.specs.Demand1.{Refusing, FormatRefusing, AskRefusing, Bare, T
 -- a call that answers the first of its rules, and leaves what was lent where it refuses
 module _ (rules : List Rule) (number : ℕ) (inner : Answer) (plain : answer_number inner ≡ 0) (t : T (distinct? rules)) (first : FirstOf rules number) where
   counted : answer_number (answered number inner) ≡ number
-  counted = answered-number number inner plain
+  counted = answered_number number inner plain
 
   refused : (answer_number (answered number inner) ≡ 0 → ⊥) → number ≡ 0 → ⊥
   refused ne e = ne (counted ∙ e)
@@ -45,7 +45,7 @@ module _ (rules : List Rule) (number : ℕ) (inner : Answer) (plain : answer_num
   refusing new lent =
       record {
         ruled = rw counted (ruled rules number t first);
-        bare = λ ne. rw (answered-refused number inner (refused ne)) (refl, refl, refl);
+        bare = λ ne. rw (answered_refused number inner (refused ne)) (refl, refl, refl);
         unchanged = λ ne. refused_kept number new lent (refused ne);
       }
 

@@ -10,17 +10,17 @@ use Rattle.store.specs.Refusal.{data_refusal}
 use Rattle.store.specs.Write.{write_answer}
 use Rattle.store.specs.Read.{read_answer}
 use Rattle.store.specs.Visit.{visit_answer}
-use Rattle.store.proofs.Answers.{answered-number}
+use Rattle.store.proofs.Answers.{answered_number}
 
 module _ (image : List ℕ) (layout : Layout) (block : ℕ) where
   pub write_number : (list : List ℕ) → answer_number (write_answer image layout block list) ≡ data_refusal (length image) layout block (length list)
   unfolding write_answer
-  write_number list = answered-number (data_refusal (length image) layout block (length list)) _ refl
+  write_number list = answered_number (data_refusal (length image) layout block (length list)) _ refl
 
   pub read_number : (buffer : List ℕ) → answer_number (read_answer image layout block buffer) ≡ data_refusal (length image) layout block (length buffer)
   unfolding read_answer
-  read_number buffer = answered-number (data_refusal (length image) layout block (length buffer)) _ refl
+  read_number buffer = answered_number (data_refusal (length image) layout block (length buffer)) _ refl
 
   pub visit_number : answer_number (visit_answer image layout block) ≡ block_refusal (length image) layout block
   unfolding visit_answer
-  visit_number = answered-number (block_refusal (length image) layout block) _ refl
+  visit_number = answered_number (block_refusal (length image) layout block) _ refl

@@ -27,7 +27,7 @@ use Rattle.layout.proofs.Sites.{Located}
 use Rattle.store.specs.Refusal.{data_refusal}
 use Rattle.store.specs.Visit.{visit_answer, visit_after, Visits, VisitsAccepted}
 use Rattle.ground.proofs.Choices.{refused_kept}
-use Rattle.store.proofs.Answers.{answered-refused}
+use Rattle.store.proofs.Answers.{answered_refused}
 use Rattle.store.proofs.Promises.{writes, reads, visits, visits_answer, visits_accepted}
 use Rattle.store.proofs.Image.{gathered_stride, placed_stride}
 use Rattle.store.proofs.Located.{list_fits}
@@ -47,16 +47,16 @@ module _ (image : List ℕ) (layout : Layout) (block number : ℕ) where
   pub write_refused : (list : List ℕ) → data_refusal (length image) layout block (length list) ≡ number → (number ≡ 0 → ⊥)
       → Writes image layout block list (Refused number) image
   unfolding write_answer write_after
-  write_refused list e ne = writes _ _ _ _ (rw e (sym (answered-refused number _ ne))) (rw e (sym (refused_kept number _ image ne)))
+  write_refused list e ne = writes _ _ _ _ (rw e (sym (answered_refused number _ ne))) (rw e (sym (refused_kept number _ image ne)))
 
   pub read_refused : (buffer : List ℕ) → data_refusal (length image) layout block (length buffer) ≡ number → (number ≡ 0 → ⊥)
       → Reads image layout block buffer (Refused number) image buffer
   unfolding read_answer read_buffer
-  read_refused buffer e ne = reads _ _ _ _ (rw e (sym (answered-refused number _ ne))) (rw e (sym (refused_kept number _ buffer ne)))
+  read_refused buffer e ne = reads _ _ _ _ (rw e (sym (answered_refused number _ ne))) (rw e (sym (refused_kept number _ buffer ne)))
 
   pub visit_refused : block_refusal (length image) layout block ≡ number → (number ≡ 0 → ⊥) → Visits image layout block (Refused number) image
   unfolding visit_answer visit_after
-  visit_refused e ne = visits _ _ _ (rw e (sym (answered-refused number _ ne))) (rw e (sym (refused_kept number _ image ne)))
+  visit_refused e ne = visits _ _ _ (rw e (sym (answered_refused number _ ne))) (rw e (sym (refused_kept number _ image ne)))
 
 -- ---- accepted: from what the steps gave
 

@@ -8,7 +8,7 @@ use lib.ListN.{length, get_or, set, take, drop, length-drop}
 use lib.Seq.{paste, paste-suc, get_or-drop, take-suc-set, drop-set-lt, append_snoc}
 use Rattle.block.specs.declared.Verdict.{Verdict}
 use Rattle.block.specs.Verdict.{verdict_words}
-use Rattle.words.specs.Answers.{verdictWidth, visitWidth, withVisit}
+use Rattle.words.specs.Answers.{verdict_width, visit_width, with_visit}
 
 -- one word more is copied
 pub copy_more : (d words : List ℕ) (at : ℕ) (s : List ℕ) (k : ℕ) → words ≡ paste d at s k → at + k < length d → k < length s
@@ -26,16 +26,16 @@ take_more d asks words n k e h g =
 
 -- a visit is put in two steps: its block, and behind it the words of its verdict
 module _ (words : List ℕ) (at block : ℕ) (verdict : Verdict) where
-  pub visit_put : (seen more : List ℕ) → at + visitWidth ≤ length words → seen ≡ verdict_words verdict
-      → more ≡ paste (set words at block) (at + 1) seen verdictWidth
-      → more ≡ withVisit words at block verdict
+  pub visit_put : (seen more : List ℕ) → at + visit_width ≤ length words → seen ≡ verdict_words verdict
+      → more ≡ paste (set words at block) (at + 1) seen verdict_width
+      → more ≡ with_visit words at block verdict
   visit_put seen more h s e =
       let inside : at < length words = omega arith in
-      let behind : at < at + 1 + verdictWidth = omega arith in
-      let width : at + 1 + verdictWidth ≡ at + visitWidth = omega arith in
+      let behind : at < at + 1 + verdict_width = omega arith in
+      let width : at + 1 + verdict_width ≡ at + visit_width = omega arith in
       e
-      ∙ ap (λ (w : List ℕ). paste (set words at block) (at + 1) w verdictWidth) s
+      ∙ ap (λ (w : List ℕ). paste (set words at block) (at + 1) w verdict_width) s
       ∙ ap₂ (λ (front rest : List ℕ). front ++ verdict_words verdict ++ rest)
       (ap (λ (k : ℕ). take k (set words at block)) (add-one at) ∙ take-suc-set words at block inside)
-      (drop-set-lt (at + 1 + verdictWidth) words at block behind ∙ ap (λ (k : ℕ). drop k words) width)
-      ∙ ap (λ (front : List ℕ). front ++ drop (at + visitWidth) words) (append_snoc (take at words) block (verdict_words verdict))
+      (drop-set-lt (at + 1 + verdict_width) words at block behind ∙ ap (λ (k : ℕ). drop k words) width)
+      ∙ ap (λ (front : List ℕ). front ++ drop (at + visit_width) words) (append_snoc (take at words) block (verdict_words verdict))

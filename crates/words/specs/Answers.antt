@@ -9,19 +9,19 @@ use Rattle.rota.specs.Numbers.{place_number, place_words}
 use Rattle.patrol.specs.declared.Report.{Report}
 use Rattle.patrol.specs.Numbers.{visit_words, no_visit, report_number, report_words}
 
-abbrev pub verdictWidth : ℕ
-verdictWidth = length no_verdict
+abbrev pub verdict_width : ℕ
+verdict_width = length no_verdict
 
 -- the words of a visit, and of the two visits of a report
-abbrev pub visitWidth : ℕ
-visitWidth = length no_visit
+abbrev pub visit_width : ℕ
+visit_width = length no_visit
 
-abbrev pub reportWidth : ℕ
-reportWidth = visitWidth + visitWidth
+abbrev pub report_width : ℕ
+report_width = visit_width + visit_width
 
 -- words with those of a visit in their place from `at` on
-abbrev pub withVisit : List ℕ → ℕ → ℕ → Verdict → List ℕ
-withVisit words at block verdict = take at words ++ visit_words block verdict ++ drop (at + visitWidth) words
+abbrev pub with_visit : List ℕ → ℕ → ℕ → Verdict → List ℕ
+with_visit words at block verdict = take at words ++ visit_words block verdict ++ drop (at + visit_width) words
 
 -- the promises of answer_number and answer_words
 abbrev pub NumbersAnswer : Answer → ℕ → Type 0

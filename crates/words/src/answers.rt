@@ -1,7 +1,7 @@
 // What the calls answer, as words.
 ghost use Rattle.std.specs.Prelude.{◌≡◌, ◌+◌, ◌≤◌};
 ghost use Rattle.block.specs.Verdict.{verdict_words};
-ghost use Rattle.words.specs.Answers.{visitWidth, reportWidth, withVisit};
+ghost use Rattle.words.specs.Answers.{visit_width, report_width, with_visit};
 ghost use Rattle.words.specs.Answers.{NumbersAnswer, SpellsAnswer, NumbersPlace, SpellsPlace, NumbersReport, SpellsReport};
 
 use super::{REPORT_WORDS, VERDICT_WORDS, VISIT_WORDS};
@@ -81,8 +81,8 @@ fn with_visit(
     block: u32,
     verdict: Verdict,
 ) -> [u32; REPORT_WORDS]
-    requires { at + visitWidth ≤ reportWidth }
-    ensures { result ≡ withVisit words at block verdict }
+    requires { at + visit_width ≤ report_width }
+    ensures { result ≡ with_visit words at block verdict }
 {
     let seen = verdict_words(verdict);
     let mut more = words;

@@ -4,7 +4,7 @@ use mathlib.Core.Path.{◌≡◌, ap, ◌∙◌}
 use native.Mathlib.Omega.{arith}
 use lib.ListN.{set, length-set}
 use lib.Seq.{paste, paste-zero}
-use Rattle.words.specs.Answers.{verdictWidth}
+use Rattle.words.specs.Answers.{verdict_width}
 use Rattle.words.proofs.Copies.{copy_more, visit_put}
 use Rattle.words.proofs.answers.with_visit.Goals as goal
 
@@ -27,6 +27,6 @@ returns c =
     let args = c.args in
     let at = c.loop-k in
     let seen = c.verdict_words-seen in
-    let e : at.k ≡ verdictWidth = omega arith in
+    let e : at.k ≡ verdict_width = omega arith in
     visit_put args.words args.at args.block args.verdict seen.result at.more (omega arith) seen.ensures
     (at.invariant.1 ∙ ap (paste (set args.words args.at args.block) (args.at + 1) seen.result) e)

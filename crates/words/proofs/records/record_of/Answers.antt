@@ -1,5 +1,5 @@
 -- `words::records::record_of` meets its contract. The loop's invariant: the places passed are taken. Assumes nothing.
-use Prim.Native.Nat.{ℕ, ◌≤◌, ◌-◌}
+use Prim.Native.Nat.{ℕ}
 use mathlib.Core.Path.{◌≡◌, refl, ap, ◌∙◌}
 use mathlib.Core.List.{List, append-nil}
 use native.Mathlib.Omega.{arith}
@@ -10,7 +10,6 @@ use Rattle.rota.specs.Line.{places}
 use Rattle.patrol.specs.declared.Record.{Record}
 use Rattle.words.specs.Records.{front_width}
 use Rattle.words.proofs.Copies.{take_more}
-use borrow.Author.Rules.{rules}
 use Rattle.words.proofs.records.record_of.Goals as goal
 
 -- the record of these words with other places
@@ -27,12 +26,12 @@ loop-k-init c = (omega arith, refl)
 pub loop-k-preserved : goal.loop-k-preserved
 loop-k-preserved c =
     let at = c.loop-k in
-    (omega arith, take_more (replicate places 0) at.asks c.args.t1 front_width at.k at.invariant.1 (omega arith) (omega arith))
+    (omega arith, take_more (replicate places 0) at.asks c.args.words front_width at.k at.invariant.1 (omega arith) (omega arith))
 
 pub returns : goal.returns
 returns c =
-    let ended : c.loop-k.asks ≡ take places (drop front_width c.args.t1) = let words = c.args.t1 in
+    let ended : c.loop-k.asks ≡ take places (drop front_width c.args.words) = let words = c.args.words in
     let at = c.loop-k in
     let e : at.k ≡ places = omega arith in
     at.invariant.1 ∙ ap (paste (replicate places 0) 0 (drop front_width words)) e ∙ append-nil (take places (drop front_width words)) in
-    ap (withAsks c.args.t1) ended
+    ap (withAsks c.args.words) ended
