@@ -41,7 +41,7 @@ use Rattle.report.specs.Lines.{image_line, block_line, total_line}
 use Rattle.report.specs.Report.{verdict_at, block_lines, tally_below, lines_by, image_report, report_of}
 use Rattle.report.proofs.Visited.{verdict_read}
 use Rattle.report.proofs.SameLines.{lines_same}
-use Rattle.demands.specs.Examples.{Example, examples, alone, ones, fresh, found_two, ◌with◌in-rows◌}
+use Rattle.demands.specs.Examples.{Example, examples, alone, ones, fresh, found_two, ◌with◌in_rows◌}
 use Rattle.demands.specs.Examples.{found5, found6, found7, found8, found9, found10, found11}
 
 module _ (layout : Layout) where

@@ -19,8 +19,8 @@ pub record Example : Type 0 where
   pub must : List ℕ
 
 -- a block with the given words in the given rows
-infixl 5 ◌with◌in-rows◌
-abbrev pub ◌with◌in-rows◌ : List ℕ → ℕ → List ℕ → List ℕ
+infixl 5 ◌with◌in_rows◌
+abbrev pub ◌with◌in_rows◌ : List ℕ → ℕ → List ℕ → List ℕ
 block with word in_rows [] = block
 block with word in_rows (p ∷ more) = set block (p - 1) word with word in_rows more
 
