@@ -36,10 +36,10 @@ returns c =
     let shape : Shape = c.args.shape in
     let sums : List ℕ = sums_of shape (data_block shape list) in
     let placed-is : c.match-shape.block ≡ data_block c.args.shape c.args.list.now = let given = c.args.list.now in
-        elim c.match-shape.branch [
-          in-One w ↦ of_shape w.in-One.is given (w.block-is ∙ table_spread data_one_lem _ given w.spread.ensures refl)
-          | in-Two w ↦ of_shape w.in-Two.is given (w.block-is ∙ table_spread data_two_lem _ given w.spread-in-Two.ensures refl)
-        ] in
+    elim c.match-shape.branch [
+      | in-One w ↦ of_shape w.in-One.is given (w.block-is ∙ table_spread data_one_lem _ given w.spread.ensures refl)
+      | in-Two w ↦ of_shape w.in-Two.is given (w.block-is ∙ table_spread data_two_lem _ given w.spread-in-Two.ensures refl)
+    ] in
     let stored_is : c.complement_block.new.block ≡ complemented (data_block c.args.shape c.args.list.now) = c.complement_block.ensures ∙ ap complemented placed-is in
     let sums-are : after ≡ sums = own_sums shape list stored_is c.beside.ensures in
     let last-is : bit_xor (get_or after 7 0) c.xor_all.result ≡ bit_xor (get_or sums 7 0) (xor_all 7 sums) = ap₂ bit_xor (ap (λ (s : List ℕ). get_or s 7 0) sums-are) (c.xor_all.ensures ∙ ap (xor_all 7) sums-are) in

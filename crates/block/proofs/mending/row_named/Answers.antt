@@ -40,7 +40,7 @@ loop-k-preserved c =
       omega arith,
       rw add-one
           (elim c.if-sums-k-eq1.branch [
-            then-sums-k-eq1 w ↦ rw (w.sum-is, digit_one args.i word w.if-sums-k-eq1.true, loop.invariant.1, loop.invariant.2)
+            | then-sums-k-eq1 w ↦ rw (w.sum-is, digit_one args.i word w.if-sums-k-eq1.true, loop.invariant.1, loop.invariant.2)
             | else-sums-k-eq1 w ↦ rw (w.sum-is, digit_zero args.i word w.if-sums-k-eq1.false, loop.invariant.1) (omega arith)
           ]),
       rw (add-one, pow-suc) (omega arith),
