@@ -23,7 +23,7 @@ pub loop-rest-preserved : goal.loop-rest-preserved
 loop-rest-preserved c =
     let l = c.loop-rest in
     let some : 1 ≤ l.first = omega (arith, decimal_some l.rest) in
-    let more : 10 ≤ l.rest = omega (arith, c.if-rest-eq0.false) in (
+    let more : 10 ≤ l.rest = omega arith in (
       put_more _ l.rest l.first l.digits l.invariant.0 some (omega (arith, l.invariant.2, l.invariant.3)) more,
       omega (arith, l.invariant.1, length_more l.rest more),
       omega (arith, l.invariant.2),
@@ -35,7 +35,7 @@ pub returns : goal.returns
 returns c =
     let l = c.loop-rest in
     let some : 1 ≤ l.first = omega (arith, decimal_some l.rest) in
-    let only : l.rest < 10 = omega (arith, c.if-rest-eq0.true) in
+    let only : l.rest < 10 = omega arith in
     let first : ℕ = l.first - 1 in
     let put : List ℕ = set l.digits first (48 + l.rest % 10) in
     let spelt : take (10 - first) (drop first put) ≡ decimal c.args.n =
