@@ -1,6 +1,6 @@
 -- What is answered and left of a block that was looked at, from what the steps of the code gave. Assumes nothing.
 use Prim.Native.Nat.{ℕ, zero, suc, ◌+◌, ◌*◌, ◌-◌, ◌^◌, ◌≤◌, ◌<◌}
-use mathlib.Core.Bool.{Bool, false, ◌||◌}
+use mathlib.Core.Bool.{Bool, true, false, ◌||◌}
 use mathlib.Core.Path.{◌≡◌, refl, sym, ap, ap₂, ◌∙◌}
 use mathlib.Core.List.{List, [], ◌∷◌}
 use mathlib.Core.Logic.{inl, inr, ⊎_elim}
@@ -267,6 +267,7 @@ module _ {image : List ℕ} {layout : Layout} {block : ℕ} {shape : Shape} {at 
 
       -- no sum is left: the row alone was wrong
       pub one_alone : left_in ≡ 0 → Mends image layout block shape (r ∷ []) (answers.Mended (ones wrong_in) 0) now
+      unfolding ones
       one_alone no-left =
           mended_mends looked (r ∷ []) within none_around (ones wrong_in) 0
           (sym (one.one_inside shape found size r low high looked.are none))
@@ -336,10 +337,10 @@ module _ {image : List ℕ} {layout : Layout} {block : ℕ} {shape : Shape} {at 
       three_flipped = changed_at two (c - 1) told.c
 
       first_held : Held looked (changed_at seen (a - 1) told.a)
-      first_held = flip_held looked seen (code_held looked) a three.a-row.0 three.a-row.1 told.a
+      first_held = flip_held looked seen (code_held looked) a three.a_row.0 three.a_row.1 told.a
 
       two_held : Held looked two
-      two_held = flip_held looked (changed_at seen (a - 1) told.a) first_held b three.b-row.0 three.b-row.1 told.b
+      two_held = flip_held looked (changed_at seen (a - 1) told.a) first_held b three.b_row.0 three.b_row.1 told.b
 
       two_placed : (first second : List ℕ) → first ≡ changed_at image (at + (a - 1) * layout.s) told.a
           → second ≡ changed_at first (at + (b - 1) * layout.s) told.b
@@ -347,15 +348,15 @@ module _ {image : List ℕ} {layout : Layout} {block : ℕ} {shape : Shape} {at 
       two_placed first second e f =
           f
           ∙ flip_placed looked (changed_at seen (a - 1) told.a) first first_held
-          (e ∙ flip_placed looked seen image (code_held looked) (sym (placed_gathered layout block image)) a three.a-row.0 three.a-row.1 told.a)
-          b three.b-row.0 three.b-row.1 told.b
+          (e ∙ flip_placed looked seen image (code_held looked) (sym (placed_gathered layout block image)) a three.a_row.0 three.a_row.1 told.a)
+          b three.b_row.0 three.b_row.1 told.b
 
       two_row : (j : ℕ) → j < rows shape → get_or two j 0 ≡ bit_xor (bit_xor (get_or seen j 0) (pick (eqb (suc j) a) told.a)) (pick (eqb (suc j) b) told.b)
       two_row j h =
           let size = rows_fit shape in
-          row_changed (changed_at seen (a - 1) told.a) b told.b three.b-row.0 j (omega (arith, first_held.0, size))
+          row_changed (changed_at seen (a - 1) told.a) b told.b three.b_row.0 j (omega (arith, first_held.0, size))
           ∙ ap (λ (w : ℕ). bit_xor w (pick (eqb (suc j) b) told.b))
-          (row_changed seen a told.a three.a-row.0 j (omega (arith, length_gathered layout block image, size)))
+          (row_changed seen a told.a three.a_row.0 j (omega (arith, length_gathered layout block image, size)))
 
       counted : ones told.a + ones told.b + ones told.c ≡ bits_inside shape (more_rows a b c) seen (around_block shape (more_rows a b c) seen)
       counted = sym (more.more_inside shape seen (long looked) three looked.are solved none fa fb fc)
@@ -405,7 +406,7 @@ module _ {image : List ℕ} {layout : Layout} {block : ℕ} {shape : Shape} {at 
           → third ≡ changed_at second (at + (c - 1) * layout.s) told.c
           → Mends image layout block shape (more_rows a b c) (answers.Mended (ones told.a + ones told.b + ones told.c) 0) third
       more_three some first second third e f g =
-          let there = third_row three.c-row in
+          let there = third_row three.c_row in
           mended_so three_flipped third (flip_held looked two two_held c there.0 there.1 told.c).0
           (g ∙ flip_placed looked two second two_held (two_placed first second e f) c there.0 there.1 told.c)
           (λ j h.
