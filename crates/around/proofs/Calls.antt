@@ -308,6 +308,10 @@ module _ {image : List ℕ} {layout : Layout} {block : ℕ} {shape : Shape} {at 
 
 -- ---- two or three
 
+-- a third row that is not 0 is there
+pub third_row : {m c : ℕ} → (c ≡ 0 → ⊥) → RowOrNone m c → (1 ≤ c) × (c ≤ suc m)
+third_row some h = ⊎_elim (λ z. absurd (some z)) (λ r. r) h
+
 module _ {image : List ℕ} {layout : Layout} {block : ℕ} {shape : Shape} {at : ℕ} {sums : List ℕ} (looked : Looked image layout block shape at sums)
     (a b c : ℕ) (named : misnamed? (rows shape) (more_rows a b c) ≡ false) where
   pub three : Three (before shape) (before_small shape) a b c
@@ -406,11 +410,8 @@ module _ {image : List ℕ} {layout : Layout} {block : ℕ} {shape : Shape} {at 
           → third ≡ changed_at second (at + (c - 1) * layout.s) told.c
           → Mends image layout block shape (more_rows a b c) (answers.Mended (ones told.a + ones told.b + ones told.c) 0) third
       more_three some first second third e f g =
-          let there = third_row three.c_row in
+          let there = third_row some three.c_row in
           mended_so three_flipped third (flip_held looked two two_held c there.0 there.1 told.c).0
           (g ∙ flip_placed looked two second two_held (two_placed first second e f) c there.0 there.1 told.c)
           (λ j h.
           row_changed two c told.c there.0 j (omega (arith, two_held.0, rows_fit shape)) ∙ ap (λ (w : ℕ). bit_xor w (pick (eqb (suc j) c) told.c)) (two_row j h))
-        where
-          third_row : RowOrNone (before shape) c → (1 ≤ c) × (c ≤ rows shape)
-          third_row h = ⊎_elim (λ z. absurd (some z)) (λ r. r) h
