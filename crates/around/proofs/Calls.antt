@@ -1,7 +1,7 @@
 -- What is answered and left of a block that was looked at, from what the steps of the code gave. Assumes nothing.
 use Prim.Native.Nat.{ℕ, zero, suc, ◌+◌, ◌*◌, ◌-◌, ◌^◌, ◌≤◌, ◌<◌}
 use mathlib.Core.Bool.{Bool, true, false, ◌||◌}
-use mathlib.Core.Path.{◌≡◌, refl, sym, ap, ap₂, ◌∙◌}
+use mathlib.Core.Path.{◌≡◌, refl, sym, ap, ◌∙◌}
 use mathlib.Core.List.{List, [], ◌∷◌}
 use mathlib.Core.Logic.{inl, inr, ⊎_elim}
 use native.Mathlib.Omega.{arith}
@@ -19,11 +19,10 @@ use Rattle.ground.proofs.Bools.{neither}
 use Rattle.shape.specs.declared.Shape.{Shape}
 use Rattle.shape.specs.Shape.{before, rows}
 use Rattle.shape.proofs.Sizes.{rows_fit, before_small}
-use Rattle.sums.specs.Sums.{sums_of}
 use Rattle.sums.specs.Inner.{any_of}
 use Rattle.block.specs.declared.Verdict.{Verdict}
-use Rattle.block.specs.declared.Verdict.TheVariants.{Clean, Mended, Lost}
-use Rattle.block.specs.Block.{SameRows, ValidBlock, lanes_lost, lanes_lost_as, mended_block}
+use Rattle.block.specs.declared.Verdict.TheVariants.{Lost}
+use Rattle.block.specs.Block.{SameRows, lanes_lost, lanes_lost_as, mended_block}
 use Rattle.block.specs.Sums.{Decides}
 use Rattle.block.specs.Verdict.{verdict, verdict_of}
 use Rattle.block.proofs.Blocks.{counted_none, length_mended}
@@ -31,8 +30,7 @@ use Rattle.block.proofs.Lanes.{ones_total}
 use Rattle.block.proofs.Decided.{decided}
 use Rattle.block.proofs.Told.{NotLost, not_lost, lost_some, kinds_lost, few_lost}
 use Rattle.layout.specs.declared.Layout.{Layout}
-use Rattle.layout.specs.Layout.{shape_of, rows_of, index}
-use Rattle.layout.specs.Refusal.{block_refusal}
+use Rattle.layout.specs.Layout.{rows_of, index}
 use Rattle.layout.proofs.Index.{stride}
 use Rattle.layout.proofs.Ladder.{accepted}
 use Rattle.store.specs.Image.{gathered, placed}
@@ -43,7 +41,7 @@ use Rattle.around.specs.declared.solving.Told.{Told}
 use Rattle.around.specs.Named.{among?}
 use Rattle.around.specs.Refusal.{misnamed?}
 use Rattle.around.specs.Block.{lanes_lost_around, around_block, bits_inside, bits_outside}
-use Rattle.around.specs.Inner.{more_rows, mark, changed_by, changed_at, RowInside, Solves, around_by, around_of, Looked, Mends}
+use Rattle.around.specs.Inner.{more_rows, mark, changed_at, RowInside, Solves, around_by, around_of, Looked, Mends}
 use Rattle.around.proofs.Lanes.{RowsTo}
 use Rattle.around.proofs.Blocks.{row_changed, around_lost, length_around, unchanged_valid}
 use Rattle.around.proofs.Images.{placed_over, placed_same, there, changed_placed}
@@ -167,7 +165,7 @@ either_false : (a b : Bool) → a || b ≡ false → (a ≡ false) × (b ≡ fal
 either_false a b e = neither a b e
 
 -- a row that is named is there, and no other is the same
-named_row : (last r : ℕ) (named : List ℕ) → misnamed? last (r ∷ named) ≡ false
+pub named_row : (last r : ℕ) (named : List ℕ) → misnamed? last (r ∷ named) ≡ false
     → (1 ≤ r) × (r ≤ last) × (among? named r ≡ false) × (misnamed? last named ≡ false)
 unfolding misnamed?
 named_row last r named e =

@@ -13,3 +13,4 @@ pub mod Taken
 pub mod None
 pub mod Answers
 pub mod Calls
+pub mod Promised

@@ -1,7 +1,7 @@
 -- Two or three marks are taken out of the sums: what is told of a lane makes its digits where none is left, and none is left where some rows make
 -- them. Assumes nothing.
 use Prim.Native.Nat.{ℕ, suc, ◌+◌, ◌≤◌, ◌<◌}
-use mathlib.Core.Bool.{Bool, true, false, ◌&&◌, and-true, and-false, true≢false}
+use mathlib.Core.Bool.{Bool, true, false, ◌&&◌, true≢false}
 use mathlib.Core.Path.{◌≡◌, refl, sym, ap, ap₂, ◌∙◌}
 use mathlib.Core.List.{List}
 use mathlib.Core.Logic.{◌⊎◌, inl, inr, ⊎_elim, by_cases}
@@ -16,7 +16,6 @@ use Rattle.lane.specs.Bit.{bit, ◌⊕◌}
 use Rattle.lane.proofs.Bits.{bit_of_xor, bit_zero, bit_high, xor_cancel}
 use Rattle.sums.proofs.WordBits.{digit_one}
 use Rattle.block.proofs.Flips.{trailing_set}
-use Rattle.around.specs.declared.solving.Told.{Told}
 use Rattle.around.specs.Inner.{mark, changed_by, lanes_told, Marks, Made, Solves}
 use Rattle.around.proofs.ThreeRows.{Three}
 use Rattle.around.proofs.One.{changed_bit}

@@ -1,14 +1,13 @@
 -- Lanes that differ in some of three rows at most: their sums and parities are made by those rows' marks, and by no others. The third row may be 0,
 -- which is none. Assumes nothing.
-use Prim.Native.Nat.{ℕ, zero, suc, ◌+◌, ◌^◌, ◌≤◌, ◌<◌}
+use Prim.Native.Nat.{ℕ, zero, suc, ◌+◌, ◌≤◌, ◌<◌}
 use mathlib.Core.Bool.{Bool, true, false, not, cond, ◌&&◌, ◌||◌, and-false, and-true, true≢false}
 use mathlib.Core.Path.{◌≡◌, refl, sym, ap, ap₂, ◌∙◌}
-use mathlib.Core.List.{List, [], ◌∷◌}
-use mathlib.Core.Logic.{◌⊎◌, inl, inr, ⊎_elim, by_cases}
-use native.Mathlib.Nat.{eq-or-lt_of_le, le_of_suc-le-suc}
+use mathlib.Core.List.{List}
+use mathlib.Core.Logic.{inr, ⊎_elim, by_cases}
 use native.Mathlib.Decide.{ℕ_discrete}
 use native.Mathlib.Omega.{arith}
-use lib.Bits.{bit_xor, xor_self, xor_zero_r}
+use lib.Bits.{bit_xor, xor_self}
 use lib.Dec.{eqb, eqb-suc-zero}
 use borrow.Author.Tests.{eq-eqb, ne_eqb}
 use Rattle.lane.specs.Bit.{bit, ◌⊕◌, pick}
@@ -19,7 +18,7 @@ use Rattle.lane.proofs.Distance.{empty}
 use Rattle.lane.proofs.Mended.{⊕-cancel, ⊕-self, count_empty}
 use Rattle.lane.proofs.Exactly.{sum_lt}
 use Rattle.around.specs.Named.{among?, spare?}
-use Rattle.around.specs.Lane.{outside, MeantLane, weight}
+use Rattle.around.specs.Lane.{outside, MeantLane}
 use Rattle.around.specs.Inner.{more_rows, mark, Made}
 use Rattle.around.proofs.Lanes.{RowsTo}
 use Rattle.around.proofs.Marks.{digits, digits_diff, digits_same, one, RowOrNone, one_count, one_digit}

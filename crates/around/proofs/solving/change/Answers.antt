@@ -19,7 +19,7 @@ loop-k-preserved c =
       omega arith,
       rw add-one
           (elim c.if-mark-k-eq1.branch [
-            then-mark-k-eq1 w ↦ rw (w.sums-is, loop.invariant.1) (change_one args.mark args.lanes args.sums.now loop.k (digit_one loop.k args.mark w.if-mark-k-eq1.true))
+            | then-mark-k-eq1 w ↦ rw (w.sums-is, loop.invariant.1) (change_one args.mark args.lanes args.sums.now loop.k (digit_one loop.k args.mark w.if-mark-k-eq1.true))
             | else-mark-k-eq1 w ↦ rw (w.sums-is, loop.invariant.1) (change_none args.mark args.lanes args.sums.now loop.k (digit_zero loop.k args.mark w.if-mark-k-eq1.false))
           ]),
     )

@@ -1,6 +1,6 @@
 -- `around::visiting::around_more` meets its contract: from what is told of two or three rows. Assumes nothing.
-use Prim.Native.Nat.{ℕ, ◌+◌, ◌*◌, ◌-◌, ◌^◌, ◌<◌, ◌≤◌}
-use mathlib.Core.Path.{◌≡◌, refl, sym, ap, ◌∙◌}
+use Prim.Native.Nat.{◌^◌, ◌<◌}
+use mathlib.Core.Path.{refl, sym, ap, ◌∙◌}
 use native.Mathlib.Omega.{arith}
 use borrow.Author.Rules.{rules}
 use lib.ListN.{length, length-set}
@@ -35,8 +35,8 @@ solve-wrong-requires c =
 pub returns-then-lost-ne0 : goal.returns-then-lost-ne0
 returns-then-lost-ne0 c =
     let solved : Solves c.args.sums.now (mark (rows c.args.shape) c.args.a) (mark (rows c.args.shape) c.args.b) (mark (rows c.args.shape) c.args.c)
-        c.solve-wrong.result c.solve-wrong.new.sums =
-        rw (c.mark.ensures, c.mark-2.ensures, c.mark-3.ensures, c.rows-last.ensures) at c.solve-wrong.ensures in
+    c.solve-wrong.result c.solve-wrong.new.sums =
+    rw (c.mark.ensures, c.mark-2.ensures, c.mark-3.ensures, c.rows-last.ensures) at c.solve-wrong.ensures in
     let are = c.any-lost.ensures in
     rw are (more_lost c.requires.0 c.args.a c.args.b c.args.c c.requires.1 solved (rw are at c.any-lost.type_inv) (λ z. c.if-lost-ne0.true (are ∙ z)))
 
@@ -53,8 +53,8 @@ flip-requires-2 c =
 pub returns-then-c-eq0 : goal.returns-then-c-eq0
 returns-then-c-eq0 c =
     let solved : Solves c.args.sums.now (mark (rows c.args.shape) c.args.a) (mark (rows c.args.shape) c.args.b) (mark (rows c.args.shape) c.args.c)
-        c.solve-wrong.result c.solve-wrong.new.sums =
-        rw (c.mark.ensures, c.mark-2.ensures, c.mark-3.ensures, c.rows-last.ensures) at c.solve-wrong.ensures in
+    c.solve-wrong.result c.solve-wrong.new.sums =
+    rw (c.mark.ensures, c.mark-2.ensures, c.mark-3.ensures, c.rows-last.ensures) at c.solve-wrong.ensures in
     let fa : c.solve-wrong.result.a < 2 ^ 32 = search rules in
     let fb : c.solve-wrong.result.b < 2 ^ 32 = search rules in
     let fc : c.solve-wrong.result.c < 2 ^ 32 = search rules in
@@ -70,8 +70,8 @@ flip-requires-3 c =
 pub returns : goal.returns
 returns c =
     let solved : Solves c.args.sums.now (mark (rows c.args.shape) c.args.a) (mark (rows c.args.shape) c.args.b) (mark (rows c.args.shape) c.args.c)
-        c.solve-wrong.result c.solve-wrong.new.sums =
-        rw (c.mark.ensures, c.mark-2.ensures, c.mark-3.ensures, c.rows-last.ensures) at c.solve-wrong.ensures in
+    c.solve-wrong.result c.solve-wrong.new.sums =
+    rw (c.mark.ensures, c.mark-2.ensures, c.mark-3.ensures, c.rows-last.ensures) at c.solve-wrong.ensures in
     let fa : c.solve-wrong.result.a < 2 ^ 32 = search rules in
     let fb : c.solve-wrong.result.b < 2 ^ 32 = search rules in
     let fc : c.solve-wrong.result.c < 2 ^ 32 = search rules in
