@@ -229,7 +229,8 @@ module _ (image : List ℕ) (layout : Layout) (block : ℕ) where
         rw none_refusal
         (ap unnamed (visits_answer image layout block visited)
         ∙ by (block_refusal (length image) layout block) (verdict_of shape code)
-        ∙ ap (λ (a : Around). if_zero (block_refusal (length image) layout block) a (Refused (block_refusal (length image) layout block))) (none_says shape code))
+        ∙ ap (λ (a : Around). if_zero (block_refusal (length image) layout block) a (Refused (block_refusal (length image) layout block)))
+        (none_says shape code))
       where
         by : (n : ℕ) (v : Verdict) → unnamed (answered n (Found v)) ≡ if_zero n (unnamed (Found v)) (Refused n)
         by zero v = refl

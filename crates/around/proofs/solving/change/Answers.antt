@@ -15,12 +15,14 @@ loop-k-init c = (omega arith, refl)
 pub loop-k-preserved : goal.loop-k-preserved
 loop-k-preserved c =
     let args = c.args in
-    let loop = c.loop-k in (
+    let loop = c.loop-k in
+    let one = change_one args.mark args.lanes args.sums.now loop.k in
+    let none = change_none args.mark args.lanes args.sums.now loop.k in (
       omega arith,
       rw add-one
           (elim c.if-mark-k-eq1.branch [
-            | then-mark-k-eq1 w ↦ rw (w.sums-is, loop.invariant.1) (change_one args.mark args.lanes args.sums.now loop.k (digit_one loop.k args.mark w.if-mark-k-eq1.true))
-            | else-mark-k-eq1 w ↦ rw (w.sums-is, loop.invariant.1) (change_none args.mark args.lanes args.sums.now loop.k (digit_zero loop.k args.mark w.if-mark-k-eq1.false))
+            | then-mark-k-eq1 w ↦ rw (w.sums-is, loop.invariant.1) (one (digit_one loop.k args.mark w.if-mark-k-eq1.true))
+            | else-mark-k-eq1 w ↦ rw (w.sums-is, loop.invariant.1) (none (digit_zero loop.k args.mark w.if-mark-k-eq1.false))
           ]),
     )
 

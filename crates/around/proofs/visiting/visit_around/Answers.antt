@@ -8,7 +8,8 @@ use Rattle.layout.proofs.Sites.{located, refused, locates_is}
 use Rattle.store.proofs.Located.{first_small}
 use Rattle.around.specs.Inner.{named_of}
 use Rattle.around.specs.declared.naming.Named.TheVariants.{Wrong, Rows}
-use Rattle.around.proofs.Promised.{no_list, none_visited, named_wrong, rows_fine, one_list, more_list, site_refused, list_refused, clean_promised, mends_there, valid_there, looked_at}
+use Rattle.around.proofs.Promised.{no_list, none_visited, named_wrong, rows_fine, one_list, more_list}
+use Rattle.around.proofs.Promised.{site_refused, list_refused, clean_promised, mends_there, valid_there, looked_at}
 use Rattle.around.proofs.visiting.visit_around.Goals as goal
 
 pub returns-then-list-eq0 : goal.returns-then-list-eq0
