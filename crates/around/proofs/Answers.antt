@@ -10,7 +10,7 @@ use Rattle.shape.specs.declared.Shape.{Shape}
 use Rattle.block.specs.Block.{lanes_lost_as}
 use Rattle.around.specs.declared.Around.{Around}
 use Rattle.around.specs.declared.Around.TheVariants.{Refused, Clean, Mended, Lost, LostAround}
-use Rattle.around.specs.Answer.{around_number, around_verdict, around_counts, SaidAround, around_said, unsaid_around, said_around_by, to_say_around, AnswersAround}
+use Rattle.around.specs.Answer.{around_number, around_verdict, around_counts, SaidAround, around_said, said_around_by, to_say_around, AnswersAround}
 use Rattle.around.specs.Block.{lanes_lost_around, around_block, bits_inside, bits_outside}
 use Rattle.around.specs.Inner.{around_by, around_of}
 

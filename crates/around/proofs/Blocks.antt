@@ -31,7 +31,7 @@ use Rattle.sums.specs.Words.{lane, word}
 use Rattle.sums.proofs.WordBits.{bit_number, number_lt, number_bits}
 use Rattle.block.specs.Block.{ValidBlock, SameRows, Fitting}
 use Rattle.block.proofs.Blocks.{none_counted, counted_none, rows_same}
-use Rattle.around.specs.Named.{among?, spare?}
+use Rattle.around.specs.Named.{among?}
 use Rattle.around.specs.Lane.{inside, outside, MeantLane, lane_lost?, lane_changes, lane_around}
 use Rattle.around.specs.Block.{MeantBlock, lanes_lost_around, around_lanes, around_block, bits_inside, bits_outside}
 use Rattle.around.specs.Inner.{changed_at}
@@ -240,6 +240,9 @@ module _ (shape : Shape) (named block : List ℕ) where
 
           pub valid_outside : bits_outside shape named block (around_block shape named block) ≡ 0
           valid_outside = change_outside (λ p. 0) (λ p. pow_pos 32) itself ∙ none (λ p. not (among? named p))
+
+          pub valid_row : (j : ℕ) → j < rows shape → get_or block j 0 ≡ get_or (around_block shape named block) j 0
+          valid_row j h = sym (xor_zero_r (get_or block j 0)) ∙ change_row (λ p. 0) (λ p. pow_pos 32) itself j h
 
       -- and a block of which no bit is changed was valid
       pub unchanged_valid : lanes_lost_around shape named block ≡ 0 → bits_inside shape named block (around_block shape named block) ≡ 0

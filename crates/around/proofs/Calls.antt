@@ -1,7 +1,7 @@
 -- What is answered and left of a block that was looked at, from what the steps of the code gave. Assumes nothing.
 use Prim.Native.Nat.{ℕ, zero, suc, ◌+◌, ◌*◌, ◌-◌, ◌^◌, ◌≤◌, ◌<◌}
-use mathlib.Core.Bool.{Bool, false, ◌||◌}
-use mathlib.Core.Path.{◌≡◌, refl, sym, ap, ap₂, ◌∙◌}
+use mathlib.Core.Bool.{Bool, true, false, ◌||◌}
+use mathlib.Core.Path.{◌≡◌, refl, sym, ap, ◌∙◌}
 use mathlib.Core.List.{List, [], ◌∷◌}
 use mathlib.Core.Logic.{inl, inr, ⊎_elim}
 use native.Mathlib.Omega.{arith}
@@ -19,11 +19,10 @@ use Rattle.ground.proofs.Bools.{neither}
 use Rattle.shape.specs.declared.Shape.{Shape}
 use Rattle.shape.specs.Shape.{before, rows}
 use Rattle.shape.proofs.Sizes.{rows_fit, before_small}
-use Rattle.sums.specs.Sums.{sums_of}
 use Rattle.sums.specs.Inner.{any_of}
 use Rattle.block.specs.declared.Verdict.{Verdict}
-use Rattle.block.specs.declared.Verdict.TheVariants.{Clean, Mended, Lost}
-use Rattle.block.specs.Block.{SameRows, ValidBlock, lanes_lost, lanes_lost_as, mended_block}
+use Rattle.block.specs.declared.Verdict.TheVariants.{Lost}
+use Rattle.block.specs.Block.{SameRows, lanes_lost, lanes_lost_as, mended_block}
 use Rattle.block.specs.Sums.{Decides}
 use Rattle.block.specs.Verdict.{verdict, verdict_of}
 use Rattle.block.proofs.Blocks.{counted_none, length_mended}
@@ -31,8 +30,7 @@ use Rattle.block.proofs.Lanes.{ones_total}
 use Rattle.block.proofs.Decided.{decided}
 use Rattle.block.proofs.Told.{NotLost, not_lost, lost_some, kinds_lost, few_lost}
 use Rattle.layout.specs.declared.Layout.{Layout}
-use Rattle.layout.specs.Layout.{shape_of, rows_of, index}
-use Rattle.layout.specs.Refusal.{block_refusal}
+use Rattle.layout.specs.Layout.{rows_of, index}
 use Rattle.layout.proofs.Index.{stride}
 use Rattle.layout.proofs.Ladder.{accepted}
 use Rattle.store.specs.Image.{gathered, placed}
@@ -43,7 +41,7 @@ use Rattle.around.specs.declared.solving.Told.{Told}
 use Rattle.around.specs.Named.{among?}
 use Rattle.around.specs.Refusal.{misnamed?}
 use Rattle.around.specs.Block.{lanes_lost_around, around_block, bits_inside, bits_outside}
-use Rattle.around.specs.Inner.{more_rows, mark, changed_by, changed_at, RowInside, Solves, around_by, around_of, Looked, Mends}
+use Rattle.around.specs.Inner.{more_rows, mark, changed_at, RowInside, Solves, around_by, around_of, Looked, Mends}
 use Rattle.around.proofs.Lanes.{RowsTo}
 use Rattle.around.proofs.Blocks.{row_changed, around_lost, length_around, unchanged_valid}
 use Rattle.around.proofs.Images.{placed_over, placed_same, there, changed_placed}
@@ -167,7 +165,7 @@ either_false : (a b : Bool) → a || b ≡ false → (a ≡ false) × (b ≡ fal
 either_false a b e = neither a b e
 
 -- a row that is named is there, and no other is the same
-named_row : (last r : ℕ) (named : List ℕ) → misnamed? last (r ∷ named) ≡ false
+pub named_row : (last r : ℕ) (named : List ℕ) → misnamed? last (r ∷ named) ≡ false
     → (1 ≤ r) × (r ≤ last) × (among? named r ≡ false) × (misnamed? last named ≡ false)
 unfolding misnamed?
 named_row last r named e =
@@ -267,6 +265,7 @@ module _ {image : List ℕ} {layout : Layout} {block : ℕ} {shape : Shape} {at 
 
       -- no sum is left: the row alone was wrong
       pub one_alone : left_in ≡ 0 → Mends image layout block shape (r ∷ []) (answers.Mended (ones wrong_in) 0) now
+      unfolding ones
       one_alone no-left =
           mended_mends looked (r ∷ []) within none_around (ones wrong_in) 0
           (sym (one.one_inside shape found size r low high looked.are none))
@@ -307,6 +306,10 @@ module _ {image : List ℕ} {layout : Layout} {block : ℕ} {shape : Shape} {at 
 
 -- ---- two or three
 
+-- a third row that is not 0 is there
+pub third_row : {m c : ℕ} → (c ≡ 0 → ⊥) → RowOrNone m c → (1 ≤ c) × (c ≤ suc m)
+third_row some h = ⊎_elim (λ z. absurd (some z)) (λ r. r) h
+
 module _ {image : List ℕ} {layout : Layout} {block : ℕ} {shape : Shape} {at : ℕ} {sums : List ℕ} (looked : Looked image layout block shape at sums)
     (a b c : ℕ) (named : misnamed? (rows shape) (more_rows a b c) ≡ false) where
   pub three : Three (before shape) (before_small shape) a b c
@@ -336,10 +339,10 @@ module _ {image : List ℕ} {layout : Layout} {block : ℕ} {shape : Shape} {at 
       three_flipped = changed_at two (c - 1) told.c
 
       first_held : Held looked (changed_at seen (a - 1) told.a)
-      first_held = flip_held looked seen (code_held looked) a three.a-row.0 three.a-row.1 told.a
+      first_held = flip_held looked seen (code_held looked) a three.a_row.0 three.a_row.1 told.a
 
       two_held : Held looked two
-      two_held = flip_held looked (changed_at seen (a - 1) told.a) first_held b three.b-row.0 three.b-row.1 told.b
+      two_held = flip_held looked (changed_at seen (a - 1) told.a) first_held b three.b_row.0 three.b_row.1 told.b
 
       two_placed : (first second : List ℕ) → first ≡ changed_at image (at + (a - 1) * layout.s) told.a
           → second ≡ changed_at first (at + (b - 1) * layout.s) told.b
@@ -347,15 +350,15 @@ module _ {image : List ℕ} {layout : Layout} {block : ℕ} {shape : Shape} {at 
       two_placed first second e f =
           f
           ∙ flip_placed looked (changed_at seen (a - 1) told.a) first first_held
-          (e ∙ flip_placed looked seen image (code_held looked) (sym (placed_gathered layout block image)) a three.a-row.0 three.a-row.1 told.a)
-          b three.b-row.0 three.b-row.1 told.b
+          (e ∙ flip_placed looked seen image (code_held looked) (sym (placed_gathered layout block image)) a three.a_row.0 three.a_row.1 told.a)
+          b three.b_row.0 three.b_row.1 told.b
 
       two_row : (j : ℕ) → j < rows shape → get_or two j 0 ≡ bit_xor (bit_xor (get_or seen j 0) (pick (eqb (suc j) a) told.a)) (pick (eqb (suc j) b) told.b)
       two_row j h =
           let size = rows_fit shape in
-          row_changed (changed_at seen (a - 1) told.a) b told.b three.b-row.0 j (omega (arith, first_held.0, size))
+          row_changed (changed_at seen (a - 1) told.a) b told.b three.b_row.0 j (omega (arith, first_held.0, size))
           ∙ ap (λ (w : ℕ). bit_xor w (pick (eqb (suc j) b) told.b))
-          (row_changed seen a told.a three.a-row.0 j (omega (arith, length_gathered layout block image, size)))
+          (row_changed seen a told.a three.a_row.0 j (omega (arith, length_gathered layout block image, size)))
 
       counted : ones told.a + ones told.b + ones told.c ≡ bits_inside shape (more_rows a b c) seen (around_block shape (more_rows a b c) seen)
       counted = sym (more.more_inside shape seen (long looked) three looked.are solved none fa fb fc)
@@ -405,11 +408,8 @@ module _ {image : List ℕ} {layout : Layout} {block : ℕ} {shape : Shape} {at 
           → third ≡ changed_at second (at + (c - 1) * layout.s) told.c
           → Mends image layout block shape (more_rows a b c) (answers.Mended (ones told.a + ones told.b + ones told.c) 0) third
       more_three some first second third e f g =
-          let there = third_row three.c-row in
+          let there = third_row some three.c_row in
           mended_so three_flipped third (flip_held looked two two_held c there.0 there.1 told.c).0
           (g ∙ flip_placed looked two second two_held (two_placed first second e f) c there.0 there.1 told.c)
           (λ j h.
           row_changed two c told.c there.0 j (omega (arith, two_held.0, rows_fit shape)) ∙ ap (λ (w : ℕ). bit_xor w (pick (eqb (suc j) c) told.c)) (two_row j h))
-        where
-          third_row : RowOrNone (before shape) c → (1 ≤ c) × (c ≤ rows shape)
-          third_row h = ⊎_elim (λ z. absurd (some z)) (λ r. r) h

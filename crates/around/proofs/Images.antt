@@ -1,13 +1,13 @@
 -- Words changed where the rows of a block lie: the block with those rows changed is placed, and nothing else. Assumes nothing.
-use Prim.Native.Nat.{ℕ, zero, suc, ◌+◌, ◌*◌, ◌-◌, ◌≤◌, ◌<◌}
-use mathlib.Core.Path.{◌≡◌, refl, sym, ap, ◌∙◌}
+use Prim.Native.Nat.{ℕ, zero, suc, ◌-◌, ◌≤◌, ◌<◌}
+use mathlib.Core.Path.{◌≡◌, sym, ap, ◌∙◌}
 use mathlib.Core.List.{List}
 use mathlib.Core.Logic.{by_cases, ⊎_elim}
 use native.Mathlib.Nat.{eq-or-lt_of_le, le_of_suc-le-suc}
-use native.Mathlib.Decide.{ℕ_discrete, dec_lt}
+use native.Mathlib.Decide.{ℕ_discrete}
 use native.Mathlib.Omega.{arith}
 use lib.Bits.{bit_xor, xor_zero_r}
-use lib.ListN.{length, get_or, set, length-set}
+use lib.ListN.{length, get_or, length-set}
 use lib.Seq.{ext_get_or, get_or-set_same, get_or-set_other}
 use Rattle.lane.proofs.Bits.{xor_swap}
 use Rattle.lane.proofs.Rows.{split_below}
@@ -16,15 +16,13 @@ use Rattle.ground.proofs.Stores.{length_stores, stores_agree}
 use Rattle.shape.proofs.Sizes.{rows_fit}
 use Rattle.stored.specs.Stored.{mask, complemented_in, complemented}
 use Rattle.stored.proofs.Forms.{row_complemented}
-use Rattle.block.specs.Block.{SameRows, mended_block}
-use Rattle.block.proofs.Blocks.{length_mended}
+use Rattle.block.specs.Block.{SameRows}
 use Rattle.layout.specs.declared.Layout.{Layout}
 use Rattle.layout.specs.Layout.{shape_of, rows_of, index}
 use Rattle.layout.specs.Refusal.{block_refusal}
-use Rattle.layout.proofs.Index.{stride, one_to_one, in_range}
+use Rattle.layout.proofs.Index.{one_to_one, in_range}
 use Rattle.layout.proofs.Ladder.{accepted}
 use Rattle.store.specs.Image.{gathered, placed, with_rows}
-use Rattle.store.specs.Visit.{visit_after}
 use Rattle.store.proofs.Image.{length_gathered, gathered_rest, gathered_row, length_placed, placed_gathered, placed_elsewhere, gathered_placed}
 use Rattle.around.specs.Inner.{changed_at}
 

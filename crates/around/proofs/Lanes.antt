@@ -8,10 +8,10 @@ use native.Mathlib.Omega.{arith}
 use lib.Bits.{bit_xor, xor_zero_r}
 use lib.Dec.{eqb, leb}
 use lib.ListN.{length}
-use borrow.Author.Tests.{leb-true, leb-false, eq-eqb, ne_eqb, eqb-true}
-use Rattle.lane.specs.Bit.{bit, ◌⊕◌, pick}
+use borrow.Author.Tests.{leb-true, leb-false, ne_eqb, eqb-true}
+use Rattle.lane.specs.Bit.{◌⊕◌, pick}
 use Rattle.lane.specs.Lane.{Lane, sum, count, odd, Valid, diff, apart}
-use Rattle.lane.specs.Decision.{decide, decision, lost?, changes, mended}
+use Rattle.lane.specs.Decision.{decide, lost?, changes, mended}
 use Rattle.lane.proofs.Bits.{⊕-zero, ⊕-one, pick_one}
 use Rattle.lane.proofs.Linear.{count_same, valid_same}
 use Rattle.lane.proofs.Distance.{empty, ⊕-same, near_equal}
@@ -19,7 +19,7 @@ use Rattle.lane.proofs.Decided.{only, flip_sum, flip_last, flip_odd}
 use Rattle.lane.proofs.Mended.{⊕-cancel, count_empty, mended_valid, mended_near, near_kept}
 use Rattle.lane.proofs.Few.{count_single}
 use Rattle.around.specs.Named.{among?, spare?}
-use Rattle.around.specs.Lane.{inside, outside, MeantLane, weight, settled, lost_around?, changes_around, lane_lost?, lane_changes, lane_around}
+use Rattle.around.specs.Lane.{outside, MeantLane, weight, settled, lost_around?, changes_around, lane_lost?, lane_changes, lane_around}
 
 -- each of the named rows is one of the rows 1 to last
 abbrev pub RowsTo : ℕ → List ℕ → Type 0

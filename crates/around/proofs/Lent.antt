@@ -1,5 +1,5 @@
 -- A lent list of at most three rows is its first rows, and is refused as the code tests it. Assumes nothing.
-use Prim.Native.Nat.{ℕ, zero, suc, ◌≤◌, ◌<◌}
+use Prim.Native.Nat.{ℕ, zero, suc, ◌≤◌}
 use mathlib.Core.Bool.{Bool, true, false, not, cond, ◌&&◌, ◌||◌}
 use mathlib.Core.Path.{◌≡◌, refl}
 use mathlib.Core.List.{List, [], ◌∷◌}
@@ -47,12 +47,12 @@ misnamed_told last (suc (suc (suc n))) a b c =
 
 -- ---- the list
 
-first_rows : (list : List ℕ) → length list ≤ 3 → first_rows (length list) (get_or list 0 0) (get_or list 1 0) (get_or list 2 0) ≡ list
-first_rows [] h = refl
-first_rows (a ∷ []) h = refl
-first_rows (a ∷ b ∷ []) h = refl
-first_rows (a ∷ b ∷ c ∷ []) h = refl
-first_rows (a ∷ b ∷ c ∷ d ∷ list) h = absurd (omega arith)
+first_rows_lem : (list : List ℕ) → length list ≤ 3 → first_rows (length list) (get_or list 0 0) (get_or list 1 0) (get_or list 2 0) ≡ list
+first_rows_lem [] h = refl
+first_rows_lem (a ∷ []) h = refl
+first_rows_lem (a ∷ b ∷ []) h = refl
+first_rows_lem (a ∷ b ∷ c ∷ []) h = refl
+first_rows_lem (a ∷ b ∷ c ∷ d ∷ list) h = absurd (omega arith)
 
 -- what is answered of it, by the code's test of its rows
 pub named_told : (last : ℕ) (list : List ℕ) → length list ≤ 3
@@ -61,7 +61,7 @@ pub named_told : (last : ℕ) (list : List ℕ) → length list ≤ 3
     let c = get_or list 2 0 in
     named_of last list ≡ cond (misnamed? last (first_rows (length list) a b c)) (Wrong 14) (Rows a b c)
 unfolding named_of named_refusal
-named_told last list h = rw (le-ltb 3 (length list) h, first_rows list h) (by_test (misnamed? last list) (Rows (get_or list 0 0) (get_or list 1 0) (get_or list 2 0)))
+named_told last list h = rw (le-ltb 3 (length list) h, first_rows_lem list h) (by_test (misnamed? last list) (Rows (get_or list 0 0) (get_or list 1 0) (get_or list 2 0)))
   where
     by_test : (t : Bool) (rows : Named) → if_zero (14 when t else 0) rows (Wrong (14 when t else 0)) ≡ cond t (Wrong 14) rows
     by_test true rows = refl

@@ -6,7 +6,6 @@ use mathlib.Core.Logic.{◌⊎◌, ⊎_elim, by_cases}
 use native.Mathlib.Nat.{eq-or-lt_of_le, le_of_suc-le-suc, le_refl}
 use native.Mathlib.Decide.{ℕ_discrete}
 use native.Mathlib.Omega.{arith}
-use lib.Bits.{bit_xor}
 use lib.Dec.{eqb, leb, eqb-suc-zero}
 use borrow.Author.Tests.{eq-eqb, ne_eqb, le-leb, lt-leb, leb-true}
 use Rattle.lane.specs.Bit.{bit, ◌⊕◌, pick}

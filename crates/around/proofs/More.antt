@@ -13,11 +13,10 @@ use lib.ListN.{length, get_or}
 use lib.Pow.{pow_pos}
 use borrow.Author.Tests.{eq-eqb, ne_eqb, eqb-true}
 use Rattle.lane.specs.Bit.{bit, ◌⊕◌, pick}
-use Rattle.lane.specs.Lane.{Lane, count, diff}
+use Rattle.lane.specs.Lane.{diff}
 use Rattle.lane.proofs.Bits.{bit_of_xor, bit_zero}
 use Rattle.lane.proofs.Linear.{count_same}
 use Rattle.lane.proofs.Exactly.{pick_bit}
-use Rattle.ground.specs.Totals.{total}
 use Rattle.ground.proofs.Totals.{total_same, total_zero, total_add}
 use Rattle.shape.specs.declared.Shape.{Shape}
 use Rattle.shape.specs.Shape.{before, rows}

@@ -1,6 +1,6 @@
 -- No row is named: what is lost, left and said is what an ordinary visit says. Assumes nothing.
 use Prim.Native.Nat.{ℕ, zero, suc}
-use mathlib.Core.Path.{◌≡◌, refl, ap, ap₂, ◌∙◌}
+use mathlib.Core.Path.{◌≡◌, refl, ap₂, ◌∙◌}
 use mathlib.Core.List.{List, []}
 use Rattle.lane.specs.Decision.{Kind}
 use Rattle.lane.proofs.Mended.{count_empty}
@@ -8,7 +8,6 @@ use Rattle.ground.specs.Choice.{if_zero}
 use Rattle.ground.proofs.Totals.{total_same, total_zero}
 use Rattle.shape.specs.declared.Shape.{Shape}
 use Rattle.shape.specs.Shape.{rows}
-use Rattle.block.specs.declared.Verdict.{Verdict}
 use Rattle.block.specs.Block.{lanes_lost, lanes_lost_as, mended_lanes, mended_block, bits_changed}
 use Rattle.block.specs.Verdict.{verdict, verdict_of}
 use Rattle.store.specs.declared.Answer.TheVariants.{Found}

@@ -1,34 +1,30 @@
 -- One row is named: the sums with its mark taken out are those of the block with the row changed where it is wrong, and that block's ordinary verdict
 -- and mending are the verdict and the mending around the row. Assumes nothing.
-use Prim.Native.Nat.{ℕ, zero, suc, ◌+◌, ◌-◌, ◌^◌, ◌≤◌, ◌<◌}
+use Prim.Native.Nat.{ℕ, zero, suc, ◌-◌, ◌^◌, ◌≤◌, ◌<◌}
 use mathlib.Core.Bool.{Bool, true, false, not, cond, ◌&&◌, and-true, and-false}
 use mathlib.Core.Path.{◌≡◌, refl, sym, ap, ap₂, ◌∙◌}
 use mathlib.Core.List.{List, [], ◌∷◌}
-use mathlib.Core.Logic.{⊎_elim, by_cases, inr}
-use native.Mathlib.Nat.{eq-or-lt_of_le, le_of_suc-le-suc}
-use native.Mathlib.Decide.{ℕ_discrete}
+use mathlib.Core.Logic.{inr}
 use native.Mathlib.Omega.{arith}
-use lib.Bits.{bit_xor, xor_lt, or_lt, xor_zero_r}
+use lib.Bits.{bit_xor, xor_lt, or_lt}
 use lib.Count.{ones}
 use lib.Dec.{eqb}
-use lib.ListN.{length, get_or, set, length-set}
+use lib.ListN.{length, get_or, length-set}
 use lib.Pow.{pow_pos}
-use lib.Seq.{ext_get_or, get_or-set_same, get_or-set_other}
-use borrow.Author.Tests.{eq-eqb, ne_eqb}
+use lib.Seq.{ext_get_or}
+use borrow.Author.Tests.{ne_eqb}
 use Rattle.lane.specs.Bit.{bit, ◌⊕◌, pick}
-use Rattle.lane.specs.Lane.{Lane, sum, count, odd, diff}
+use Rattle.lane.specs.Lane.{Lane, sum, odd, diff}
 use Rattle.lane.specs.Decision.{Decision, decision, decide, lost?, changes}
-use Rattle.lane.proofs.Bits.{bit_of_xor, bit_zero, bit_ext_below, xor_assoc, ⊕-zero}
-use Rattle.lane.proofs.Linear.{sum_same, count_same, sum_diff, odd_diff}
+use Rattle.lane.proofs.Bits.{bit_of_xor, bit_zero, bit_ext_below, xor_assoc}
+use Rattle.lane.proofs.Linear.{sum_same, count_same}
 use Rattle.lane.proofs.Exactly.{pick_bit, sum_lt}
-use Rattle.ground.specs.Totals.{total}
-use Rattle.ground.specs.Lists.{list_of}
-use Rattle.ground.proofs.Lists.{get_or_list_of, length_list_of, list_is}
+use Rattle.ground.proofs.Lists.{get_or_list_of, length_list_of}
 use Rattle.ground.proofs.Totals.{total_same, total_zero}
 use Rattle.shape.specs.declared.Shape.{Shape}
 use Rattle.shape.specs.Shape.{before, rows}
 use Rattle.shape.proofs.Sizes.{before_small}
-use Rattle.sums.specs.Words.{lane, number, word}
+use Rattle.sums.specs.Words.{lane, word}
 use Rattle.sums.specs.Sums.{sums_of}
 use Rattle.sums.specs.Inner.{any_of}
 use Rattle.sums.proofs.Doubt.{bit_any, word_lt}
@@ -42,7 +38,7 @@ use Rattle.around.specs.Lane.{MeantLane, weight, lane_lost?}
 use Rattle.around.specs.Block.{lanes_lost_around, around_block, bits_inside, bits_outside}
 use Rattle.around.specs.Inner.{mark, changed_by, changed_at}
 use Rattle.around.proofs.Lanes.{RowsTo, ⊕-assoc}
-use Rattle.around.proofs.Blocks.{row_changed, meant_same, change_none, change_row, change_inside, change_outside}
+use Rattle.around.proofs.Blocks.{row_changed, meant_same, change_row, change_inside, change_outside}
 use Rattle.around.proofs.Marks.{mark_low, weight_small, digits, digits_same, change_digit}
 use Rattle.around.proofs.More.{swap, digit_of}
 use Rattle.around.proofs.OneRow as row

@@ -1,23 +1,23 @@
 -- One row is named: it is wrong in the lanes that its mark takes the sum out of and that were odd, and in those with a sum left that were even. Once it
 -- is changed there, the ordinary decision is the one around the row, and changes other rows alone. Assumes nothing.
-use Prim.Native.Nat.{ℕ, zero, suc, ◌+◌, ◌≤◌, ◌<◌}
-use mathlib.Core.Bool.{Bool, true, false, not, cond, ◌&&◌, ◌||◌, and-false, and-true, true≢false}
+use Prim.Native.Nat.{ℕ, zero, suc, ◌≤◌}
+use mathlib.Core.Bool.{Bool, true, false, not, cond, ◌&&◌, and-false, and-true}
 use mathlib.Core.Path.{◌≡◌, refl, sym, ap, ap₂, ◌∙◌}
-use mathlib.Core.List.{List, [], ◌∷◌}
-use mathlib.Core.Logic.{⊎_elim, by_cases, inr}
+use mathlib.Core.List.{[], ◌∷◌}
+use mathlib.Core.Logic.{by_cases, inr}
 use native.Mathlib.Decide.{ℕ_discrete}
 use native.Mathlib.Omega.{arith}
 use lib.Bits.{bit_xor, xor_self, xor_zero_r}
-use lib.Dec.{eqb, leb, eqb-suc-zero}
+use lib.Dec.{eqb, leb}
 use borrow.Author.Tests.{eq-eqb, ne_eqb, eqb-true, eqb-false, le-leb, lt-leb, leb-true}
-use Rattle.lane.specs.Bit.{bit, ◌⊕◌, pick}
-use Rattle.lane.specs.Lane.{Lane, sum, count, odd, Valid, diff, apart}
-use Rattle.lane.specs.Decision.{Decision, unchanged, flipped, lost, even, beyond, decision, decide, lost?, changes, mended}
-use Rattle.lane.proofs.Bits.{xor_cancel, xor_assoc, pick_one, ⊕-zero}
+use Rattle.lane.specs.Bit.{◌⊕◌, pick}
+use Rattle.lane.specs.Lane.{Lane, sum, count, odd, diff}
+use Rattle.lane.specs.Decision.{Decision, flipped, lost, beyond, decision, decide, lost?, changes, mended}
+use Rattle.lane.proofs.Bits.{xor_assoc, pick_one, ⊕-zero}
 use Rattle.lane.proofs.Linear.{sum_diff, odd_diff, count_same, valid_same}
 use Rattle.lane.proofs.Mended.{⊕-cancel, mended_valid, mended_count}
 use Rattle.around.specs.Named.{among?}
-use Rattle.around.specs.Lane.{outside, MeantLane, weight, settled, lost_around?, lane_lost?}
+use Rattle.around.specs.Lane.{outside, MeantLane, weight, lost_around?, lane_lost?}
 use Rattle.around.proofs.Lanes.{⊕-assoc}
 use Rattle.around.proofs.Marks.{one, one_sum, one_odd, one_count}
 

@@ -1,14 +1,13 @@
 -- Lanes that differ in some of three rows at most: their sums and parities are made by those rows' marks, and by no others. The third row may be 0,
 -- which is none. Assumes nothing.
-use Prim.Native.Nat.{ℕ, zero, suc, ◌+◌, ◌^◌, ◌≤◌, ◌<◌}
+use Prim.Native.Nat.{ℕ, zero, suc, ◌+◌, ◌≤◌, ◌<◌}
 use mathlib.Core.Bool.{Bool, true, false, not, cond, ◌&&◌, ◌||◌, and-false, and-true, true≢false}
 use mathlib.Core.Path.{◌≡◌, refl, sym, ap, ap₂, ◌∙◌}
-use mathlib.Core.List.{List, [], ◌∷◌}
-use mathlib.Core.Logic.{◌⊎◌, inl, inr, ⊎_elim, by_cases}
-use native.Mathlib.Nat.{eq-or-lt_of_le, le_of_suc-le-suc}
+use mathlib.Core.List.{List}
+use mathlib.Core.Logic.{inr, ⊎_elim, by_cases}
 use native.Mathlib.Decide.{ℕ_discrete}
 use native.Mathlib.Omega.{arith}
-use lib.Bits.{bit_xor, xor_self, xor_zero_r}
+use lib.Bits.{bit_xor, xor_self}
 use lib.Dec.{eqb, eqb-suc-zero}
 use borrow.Author.Tests.{eq-eqb, ne_eqb}
 use Rattle.lane.specs.Bit.{bit, ◌⊕◌, pick}
@@ -19,7 +18,7 @@ use Rattle.lane.proofs.Distance.{empty}
 use Rattle.lane.proofs.Mended.{⊕-cancel, ⊕-self, count_empty}
 use Rattle.lane.proofs.Exactly.{sum_lt}
 use Rattle.around.specs.Named.{among?, spare?}
-use Rattle.around.specs.Lane.{outside, MeantLane, weight}
+use Rattle.around.specs.Lane.{outside, MeantLane}
 use Rattle.around.specs.Inner.{more_rows, mark, Made}
 use Rattle.around.proofs.Lanes.{RowsTo}
 use Rattle.around.proofs.Marks.{digits, digits_diff, digits_same, one, RowOrNone, one_count, one_digit}
@@ -34,25 +33,25 @@ module _ (m : ℕ) (small : m < 128) where
     pub b_c : b ≡ c → ⊥
 
   pub three_within : {a b c : ℕ} → Three a b c → RowsTo (suc m) (more_rows a b c)
-  three_within {a} {b} {c} rows = by c rows.c-row
+  three_within {a} {b} {c} rows = by c rows.c_row
     where
       by : (c : ℕ) → RowOrNone m c → RowsTo (suc m) (more_rows a b c)
-      by zero h = (rows.a-row.0, rows.a-row.1, (rows.b-row.0, rows.b-row.1, tt))
+      by zero h = (rows.a_row.0, rows.a_row.1, (rows.b_row.0, rows.b_row.1, tt))
       by (suc c) h =
-          ⊎_elim (λ e. absurd (omega arith)) (λ r. (rows.a-row.0, rows.a-row.1, (rows.b-row.0, rows.b-row.1, (r.0, r.1, tt)))) h
+          ⊎_elim (λ e. absurd (omega arith)) (λ r. (rows.a_row.0, rows.a_row.1, (rows.b_row.0, rows.b_row.1, (r.0, r.1, tt)))) h
 
   abbrev pub flips : (a b c : ℕ) (x y z : Bool) → Lane
   flips a b c x y z = diff (one m a x) (diff (one m b y) (one m c z))
 
   module _ {a b c : ℕ} (rows : Three a b c) where
     ra : RowOrNone m a
-    ra = inr rows.a-row
+    ra = inr rows.a_row
 
     rb : RowOrNone m b
-    rb = inr rows.b-row
+    rb = inr rows.b_row
 
     rc : RowOrNone m c
-    rc = rows.c-row
+    rc = rows.c_row
 
     -- the digits of such a lane are made by the rows' marks
     flips_made : (x y z : Bool) → Made (digits m (flips a b c x y z)) (mark (suc m) a) (mark (suc m) b) (mark (suc m) c) x y z
@@ -204,8 +203,8 @@ module _ (m : ℕ) (small : m < 128) where
         ∙ omega (
           arith,
           count_apart (suc m) (one m b y) (one m c z) (λ j l. never_both b c rows.b_c y z (suc j)),
-          one_count m a x ra ∙ ap (λ (t : Bool). pick t 1) (there a x (λ e. omega (arith, rows.a-row))),
-          one_count m b y rb ∙ ap (λ (t : Bool). pick t 1) (there b y (λ e. omega (arith, rows.b-row))),
+          one_count m a x ra ∙ ap (λ (t : Bool). pick t 1) (there a x (λ e. omega (arith, rows.a_row))),
+          one_count m b y rb ∙ ap (λ (t : Bool). pick t 1) (there b y (λ e. omega (arith, rows.b_row))),
           one_count m c z rc ∙ ap (λ (t : Bool). pick t 1) (by_cases (ℕ_discrete c 0)
               (λ e. rw (no_third e)) (λ ne. there c z ne)),
         )
