@@ -27,21 +27,21 @@ pub enum Place {
     Given(u32),
 }
 
-#[derive(Drop)]
+#[derive(Clone, Copy)]
 pub struct RotaAsked {
     pub place: Place,
     pub rota: Rota,
 }
 
 // What a turn answers: the number of its refusal, or the patrol's block, and then the ask's block if one is served.
-#[derive(Drop)]
+#[derive(Clone, Copy)]
 pub enum Due {
     Refused(u32),
     One(u32),
     Two(u32, u32),
 }
 
-#[derive(Drop)]
+#[derive(Clone, Copy)]
 pub struct RotaTurned {
     pub due: Due,
     pub rota: Rota,
