@@ -69,6 +69,7 @@ static void measure_visits(void)
     } else lose();
 }
 
+#ifdef FOLDGREBE_VISIT_AROUND
 /* Data rows of both shapes. */
 static const uint32_t dead_rows[FOLDGREBE_AROUND_ROWS] = { 6, 11, 13 };
 
@@ -105,6 +106,7 @@ static void measure_arounds(void)
     measure_around("around-lost", 2, FOLDGREBE_LOST, 1, 0);
     flip(7, 11);
 }
+#endif
 
 static void measure_read(const char *call, uint32_t says)
 {
@@ -151,7 +153,9 @@ static void measure_store(uint32_t in_shape, uint32_t interleave)
     expect(foldgrebe_format(image, words, shape, s, GROUPS, record) == 0, "format");
     measure_write();
     measure_visits();
+#ifdef FOLDGREBE_VISIT_AROUND
     measure_arounds();
+#endif
     measure_reads();
     measure_turns();
 }

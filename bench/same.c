@@ -320,6 +320,7 @@ uint32_t foldgrebe_visit(uint32_t *image, size_t words, uint32_t shape, uint32_t
     return number;
 }
 
+#ifdef FOLDGREBE_VISIT_AROUND
 /* A named row's number as it goes into a lane's sum: the last row goes into the parity alone. */
 INLINE uint32_t in_sum(uint32_t row, uint32_t shape) { return row == rows_of(shape) ? 0 : row; }
 
@@ -436,6 +437,7 @@ uint32_t foldgrebe_visit_around(uint32_t *image, size_t words, uint32_t shape, u
 {
     return count ? visit_named(image, words, shape, s, g, block, rows, count, verdict) : visit_plainly(image, words, shape, s, g, block, verdict);
 }
+#endif
 
 uint32_t foldgrebe_ask(uint32_t record[FOLDGREBE_RECORD_WORDS], uint32_t block, uint32_t place[1])
 {

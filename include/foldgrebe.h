@@ -15,8 +15,7 @@
    in the same lane of the same block, every read gives what was last written; so long as the record is handed from call
    to call, every call that is accepted lends the whole image and names its layout, no later format and no file_read into
    the image is accepted, a format that is refused was lent other words than this record, and nothing but single flips
-   changes the image otherwise. It is promised for runs of calls without visit_around: naming healthy rows can make a wrong
-   block valid.
+   changes the image otherwise.
 
    Every call answers a number: 0 where it is accepted, or the first refusal, in the order given with the call:
      1  shape is not 1 or 2
@@ -31,8 +30,6 @@
     10  the file has fewer than 9 bytes, or its length field is not the number of bytes after byte 4
     11  the file has, or would have, above 32768 bytes
     12  the buffer that is lent for a file is shorter than the file
-    13  more than three rows are named
-    14  a named row is 0, above the rows of the shape, or named twice
    A refused call sets verdict, place, report, written and layout to zeros and alters nothing else; only a refused format
    also gives a record of zeros.
 
@@ -46,7 +43,7 @@
      where the count is 0; one to words is aligned for uint32_t, one to bytes need not be;
    - the parts of memory lent to one call, file and image too, do not overlap, and nothing else uses them until the call is
      back;
-   - nothing else: any numbers may be passed, and any words or bytes may stand in image, record, file and list of rows.
+   - nothing else: any numbers may be passed, and any words or bytes may stand in image, record and file.
    The library keeps nothing between calls, allocates nothing, and may be used from several threads on separate images. */
 #ifndef FOLDGREBE_H
 #define FOLDGREBE_H
@@ -65,17 +62,10 @@ extern "C" {
 #define FOLDGREBE_VERDICT_BEYOND 2
 #define FOLDGREBE_VERDICT_WORDS  3
 
-/* The two counts as visit_around gives them where it mends: bits changed inside the rows that are named, and outside them. */
-#define FOLDGREBE_AROUND_INSIDE  1
-#define FOLDGREBE_AROUND_OUTSIDE 2
-#define FOLDGREBE_AROUND_ROWS    3   /* the most rows that may be named */
-
 /* A verdict's number. 0 is no verdict: the call was refused, or a turn had no ask to serve; both counts are then 0. */
 #define FOLDGREBE_CLEAN  1   /* count and beyond 0 */
 #define FOLDGREBE_MENDED 2   /* count: the bits changed, from 1 to 32; beyond 0 */
 #define FOLDGREBE_LOST   3   /* count: the lanes lost with even parity; beyond: those with an odd sum beyond the rows, 0 in shape 1; together 1 to 32 */
-/* From visit_around, mended: inside up to 96, none where no row is named; outside up to 32, none where two or three are; together from 1.
-   Lost with rows named: the lanes that cannot be made valid so, from 1 to 32, and 0; with none named, the lanes of each kind as above. */
 /* To a workshop: lanes lost with even parity are even damage, so reboot; lanes lost beyond the rows are odd damage, so swap the memory.
    Where every block says 32 and 0, again after a reboot, the chip may be dead: no reboot helps then. */
 
@@ -125,14 +115,6 @@ uint32_t foldgrebe_read  (const uint32_t *image, size_t words, uint32_t shape, u
 /* Checks the block and mends it in place; a lost block is left as it is, its good lanes too. Refuses 1, 2, 3, 4, 6. */
 uint32_t foldgrebe_visit (uint32_t *image, size_t words, uint32_t shape, uint32_t s, uint32_t g, uint32_t block, uint32_t verdict[FOLDGREBE_VERDICT_WORDS]);
 
-/* A visit around up to three rows, numbered from 1, that a self-test lays on a failed chip; these may hold anything. No row named: an
-   ordinary visit. One: the block becomes the one valid block that agrees with the found one outside that row, but for at most
-   one bit a lane. Two or three: the one that agrees everywhere outside them. There is never a second such block; where there is
-   none, the block is lost and left as it is, its good lanes too. Name only rows that are known dead: healthy ones can make a wrong
-   block valid, as rows 1, 2 and 4 do where row 7 was hit. The list of rows is not altered. Refuses 1, 2, 3, 4, 6, 13, 14. */
-uint32_t foldgrebe_visit_around(uint32_t *image, size_t words, uint32_t shape, uint32_t s, uint32_t g, uint32_t block, const uint32_t *rows,
-                                size_t count, uint32_t verdict[FOLDGREBE_VERDICT_WORDS]);
-
 /* Puts the block on the waiting list and gives its place, 1 being next; a block that waits already keeps its place, and
    the record stays as it was. Refuses 1, 2, 3, 5, 6, 8. */
 uint32_t foldgrebe_ask   (uint32_t record[FOLDGREBE_RECORD_WORDS], uint32_t block, uint32_t place[1]);
@@ -155,6 +137,32 @@ uint32_t foldgrebe_file_layout(const uint8_t *file, size_t bytes, uint32_t layou
    version 1 file rows 1 and 2 of each block are complemented on the way in, and nothing is mended. Refuses as file_layout does, and then 4 where the
    image is of another length. Refused, the image stays as it was. */
 uint32_t foldgrebe_file_read  (const uint8_t *file, size_t bytes, uint32_t *image, size_t words, uint32_t layout[FOLDGREBE_LAYOUT_WORDS]);
+
+/* A call to come, which the library has not yet: only what is built with this switch, against another library, sees it. */
+#ifdef FOLDGREBE_VISIT_AROUND
+
+/* What it adds to the above. The promise about reads is for runs of calls without visit_around: naming healthy rows can make a wrong
+   block valid. Any words may stand in the list of rows. Two refusals come after the others:
+    13  more than three rows are named
+    14  a named row is 0, above the rows of the shape, or named twice */
+
+/* The two counts as visit_around gives them where it mends: bits changed inside the rows that are named, and outside them. */
+#define FOLDGREBE_AROUND_INSIDE  1
+#define FOLDGREBE_AROUND_OUTSIDE 2
+#define FOLDGREBE_AROUND_ROWS    3   /* the most rows that may be named */
+
+/* From visit_around, mended: inside up to 96, none where no row is named; outside up to 32, none where two or three are; together from 1.
+   Lost with rows named: the lanes that cannot be made valid so, from 1 to 32, and 0; with none named, the lanes of each kind as above. */
+
+/* A visit around up to three rows, numbered from 1, that a self-test lays on a failed chip; these may hold anything. No row named: an
+   ordinary visit. One: the block becomes the one valid block that agrees with the found one outside that row, but for at most
+   one bit a lane. Two or three: the one that agrees everywhere outside them. There is never a second such block; where there is
+   none, the block is lost and left as it is, its good lanes too. Name only rows that are known dead: healthy ones can make a wrong
+   block valid, as rows 1, 2 and 4 do where row 7 was hit. The list of rows is not altered. Refuses 1, 2, 3, 4, 6, 13, 14. */
+uint32_t foldgrebe_visit_around(uint32_t *image, size_t words, uint32_t shape, uint32_t s, uint32_t g, uint32_t block, const uint32_t *rows,
+                                size_t count, uint32_t verdict[FOLDGREBE_VERDICT_WORDS]);
+
+#endif
 
 #ifdef __cplusplus
 }

@@ -20,7 +20,9 @@ _Static_assert(FOLDGREBE_REPORT_ASK_BEYOND == 7 && FOLDGREBE_REPORT_WORDS == 8, 
 _Static_assert(FOLDGREBE_RECORD_SHAPE == 0 && FOLDGREBE_RECORD_INTERLEAVE == 1 && FOLDGREBE_RECORD_GROUPS == 2 && FOLDGREBE_RECORD_NEXT == 3, "record");
 _Static_assert(FOLDGREBE_RECORD_WAITING == 4 && FOLDGREBE_RECORD_PLACES == 5 && FOLDGREBE_PLACES == 16 && FOLDGREBE_RECORD_WORDS == 21, "record");
 _Static_assert(FOLDGREBE_LAYOUT_SHAPE == 0 && FOLDGREBE_LAYOUT_INTERLEAVE == 1 && FOLDGREBE_LAYOUT_GROUPS == 2 && FOLDGREBE_LAYOUT_WORDS == 3, "layout");
+#ifdef FOLDGREBE_VISIT_AROUND
 _Static_assert(FOLDGREBE_AROUND_INSIDE == 1 && FOLDGREBE_AROUND_OUTSIDE == 2 && FOLDGREBE_AROUND_ROWS == 3, "around");
+#endif
 _Static_assert(FOLDGREBE_CLEAN == 1 && FOLDGREBE_MENDED == 2 && FOLDGREBE_LOST == 3, "verdicts");
 
 static lent image, record, list, verdict, place, report, written, told;
@@ -294,6 +296,7 @@ static void visit(void)
     say_words(verdict.words, FOLDGREBE_VERDICT_WORDS);
 }
 
+#ifdef FOLDGREBE_VISIT_AROUND
 /* The rows are given after their count, but for a count above 2^32, of which the first are: what lies behind them is not to be touched. */
 static void visit_around(void)
 {
@@ -307,6 +310,7 @@ static void visit_around(void)
     say_words(verdict.words, FOLDGREBE_VERDICT_WORDS);
     if (memcmp(copy, list.words, list.length * sizeof *copy)) say(" DATA altered");
 }
+#endif
 
 static void ask(void)
 {
@@ -355,8 +359,11 @@ static void file_read(void)
 
 /* A name that another begins with stands behind it. */
 static const struct { const char *name; void (*run)(void); } calls[] = {
-    { "format", format }, { "write", write_block }, { "read", read_block }, { "visit_around", visit_around }, { "visit", visit }, { "ask", ask },
-    { "turn", turn }, { "file_write", file_write }, { "file_layout", file_layout }, { "file_read", file_read },
+#ifdef FOLDGREBE_VISIT_AROUND
+    { "visit_around", visit_around },
+#endif
+    { "format", format }, { "write", write_block }, { "read", read_block }, { "visit", visit }, { "ask", ask }, { "turn", turn },
+    { "file_write", file_write }, { "file_layout", file_layout }, { "file_read", file_read },
 };
 
 static int starts(const char *word)

@@ -47,20 +47,24 @@ need_c() {
     esac
 }
 
+# The visit around rows, which the library has not yet: FOLDGREBE_VISIT_AROUND=1 tries it too, of a library that is given.
+around=${FOLDGREBE_VISIT_AROUND:+-DFOLDGREBE_VISIT_AROUND}
+
 # compile OUT FLAGS AND FILES..: an x86-64 program that needs nothing beside it.
 compile() {
     program=$1
     shift
-    "${cross}gcc" -std=gnu11 -Wall -Wextra -static -I"$root/include" -o "$program" "$@" || die "cannot build ${program##*/}"
+    "${cross}gcc" -std=gnu11 -Wall -Wextra $around -static -I"$root/include" -o "$program" "$@" || die "cannot build ${program##*/}"
 }
 
-# The library, from --library or by rt at the root.
+# The library, from --library or by rt: of the static library foldgrebe_c, for any x86-64, under the name that C programs link.
 find_library() {
     if [ -z "$library" ]; then
         library=$root/target/staticlib/libfoldgrebe.a
         command -v rt >/dev/null 2>&1 || die "rt is not on the PATH; or give --library FILE.a"
-        said=$(cd "$root" && rt staticlib foldgrebe 2>&1) || die "rt staticlib foldgrebe failed; or give --library FILE.a
+        said=$(cd "$root/crates/foldgrebe_c" && rt lib --cpu x86-64 2>&1) || die "rt lib in crates/foldgrebe_c failed; or give --library FILE.a
 $said"
+        mkdir -p "$root/target/staticlib" && cp "$root/crates/foldgrebe_c/out/libfoldgrebe_c.a" "$library" || die "cannot write $library"
     fi
     [ -e "$library" ] || die "no such library: $library"
 }

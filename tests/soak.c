@@ -2,9 +2,9 @@
    one block. Every read must give what was last written (zeros where nothing was); every visit must count the flips that
    came since the last one; every ask must be served in its turn. Now and then the image goes through a file of either version
    and back, or a block is lost on purpose, lane by lane of either kind, and written again, or the chip is dead for a while and
-   reads all zeros or all ones: every visit must then say lost 32 0 and alter nothing. Or up to three rows of a block die, a test
-   names just these, and a visit around them must bring the block back whole before the next read; so the promise about turns
-   holds on. The store lives on. Only the library's answers are used, and where the rows lie.
+   reads all zeros or all ones: every visit must then say lost 32 0 and alter nothing. Or, with FOLDGREBE_VISIT_AROUND, up to three
+   rows of a block die, a test names just these, and a visit around them must bring the block back whole before the next read; so
+   the promise about turns holds on. The store lives on. Only the library's answers are used, and where the rows lie.
 
    soak SEED TURNS   so many turns on each of twenty-two stores; exits 1 at the first wrong answer. */
 #include <stdio.h>
@@ -28,7 +28,10 @@ static uint32_t waiting[FOLDGREBE_PLACES], waits;             /* the asks, as th
 static uint8_t file_room[FOLDGREBE_FILE_BYTES + 2 * GUARDS];
 static uint32_t kept[MOST_BLOCKS * MOST_ROWS];                /* the image while it is in a file alone, or before a visit that must not alter it */
 static uint32_t dead[MOST_BLOCKS * MOST_ROWS];                /* the image while its chip, or a block of it, is dead */
-static uint64_t turns, next, flips, reads, writes, asks, files, losses, deaths, arounds, too_much;
+static uint64_t turns, next, flips, reads, writes, asks, files, losses, deaths;
+#ifdef FOLDGREBE_VISIT_AROUND
+static uint64_t arounds, too_much;
+#endif
 static uint64_t random_state;
 static uint64_t seed;
 
@@ -171,6 +174,7 @@ static void die_one(void)
     deaths++;
 }
 
+#ifdef FOLDGREBE_VISIT_AROUND
 /* So many different rows, rows 1 and 2 and the last often among them. */
 static void name_rows(uint32_t *named, uint32_t count)
 {
@@ -248,6 +252,7 @@ static void go_around_one(void)
     expect_around(block, kept, named, count);
     read_block(block);
 }
+#endif
 
 static uint32_t place_of(uint32_t block)
 {
@@ -390,7 +395,9 @@ static void use_store(uint64_t upto)
         if (below(32) == 0) file_one();
         if (below(64) == 0) lose_one();
         if (below(256) == 0) die_one();
+#ifdef FOLDGREBE_VISIT_AROUND
         if (below(32) == 0) go_around_one();
+#endif
         if (turns % 512 == 0) drops = heaviness[below(4)];
     }
     for (size_t i = 0; i < GUARDS; i++) expect(room[i] == GUARD && image[words + i] == GUARD, "guard word altered", 0);
@@ -409,9 +416,12 @@ int main(int argc, char **argv)
         fresh_store();
         use_store(strtoull(argv[2], NULL, 10));
     }
-    printf("soak: seed %llu, %llu flips, %llu reads, %llu writes, %llu asks, %llu files, %llu losses, %llu deaths, ",
+    printf("soak: seed %llu, %llu flips, %llu reads, %llu writes, %llu asks, %llu files, %llu losses, %llu deaths",
            (unsigned long long)seed, (unsigned long long)flips, (unsigned long long)reads, (unsigned long long)writes, (unsigned long long)asks,
            (unsigned long long)files, (unsigned long long)losses, (unsigned long long)deaths);
-    printf("%llu visits around rows that mend and %llu that cannot, as they should be\n", (unsigned long long)arounds, (unsigned long long)too_much);
+#ifdef FOLDGREBE_VISIT_AROUND
+    printf(", %llu visits around rows that mend and %llu that cannot,", (unsigned long long)arounds, (unsigned long long)too_much);
+#endif
+    printf(" as they should be\n");
     return 0;
 }

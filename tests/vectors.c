@@ -49,7 +49,9 @@ static uint32_t run(const uint32_t *v, uint32_t *image, uint32_t *list, uint32_t
     case ASK: return foldgrebe_ask(record, v[BLOCK], answer + PLACE);
     case TURN: return foldgrebe_turn(record, image, words, answer + REPORT);
     case FILE_WRITE: case FILE_LAYOUT: case FILE_READ: return run_file(v, image, list, answer);
+#ifdef FOLDGREBE_VISIT_AROUND
     case VISIT_AROUND: return foldgrebe_visit_around(image, words, v[SHAPE], v[S], v[G], v[BLOCK], list, length, answer + VERDICT);
+#endif
     default: return UINT32_MAX;
     }
 }

@@ -7,6 +7,11 @@ use crate::generate::{self, Layout, Put, DEAD};
 use crate::random::Random;
 use crate::store;
 
+/// Whether visits around rows are tried, which the library has not yet: the C programs are built with a switch of this name.
+pub fn is_on() -> bool {
+    std::env::var("FOLDGREBE_VISIT_AROUND").map_or(false, |switch| !switch.is_empty())
+}
+
 /// Words to be put into a block, the visit around its rows, and, where it is known, the whole block that the rows died of.
 pub struct Work {
     pub puts: Vec<Put>,

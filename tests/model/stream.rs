@@ -165,7 +165,9 @@ pub fn kinds() -> Vec<String> {
         first.iter().chain(then).for_each(|answer| kinds.push(format!("{name} {answer}")));
     }
     BURSTS.iter().for_each(|answer| kinds.push(format!("visit {answer}")));
-    AROUND.iter().chain(&AROUND_REFUSED).for_each(|answer| kinds.push(format!("visit_around {answer}")));
+    if around::is_on() {
+        AROUND.iter().chain(&AROUND_REFUSED).for_each(|answer| kinds.push(format!("visit_around {answer}")));
+    }
     kinds
 }
 
@@ -356,7 +358,7 @@ fn scene(r: &mut Random, stream: &mut Stream, length: u64) -> io::Result<()> {
             continue;
         }
         left -= 1;
-        if r.chance(15) {
+        if around::is_on() && r.chance(15) {
             go_around(r, stream, at, &mut lent)?;
             continue;
         }

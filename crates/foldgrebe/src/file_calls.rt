@@ -5,8 +5,7 @@ ghost use Rattle.foldgrebe.specs.FileCalls.{FileWriteCall, FileLayoutCall, FileR
 use layout::Layout;
 use words::LAYOUT_WORDS;
 
-#[unsafe(no_mangle)]
-pub extern "C" fn foldgrebe_file_write(
+pub fn foldgrebe_file_write(
     image: &[u32],
     shape: u32,
     s: u32,
@@ -22,8 +21,7 @@ pub extern "C" fn foldgrebe_file_write(
     words::written_number(answer)
 }
 
-#[unsafe(no_mangle)]
-pub extern "C" fn foldgrebe_file_layout(bytes: &[u8], layout: &mut [u32; LAYOUT_WORDS]) -> u32
+pub fn foldgrebe_file_layout(bytes: &[u8], layout: &mut [u32; LAYOUT_WORDS]) -> u32
     ensures { FileLayoutCall bytes.now result bytes.now layout.new }
 {
     let said = file::read_header(bytes);
@@ -31,12 +29,7 @@ pub extern "C" fn foldgrebe_file_layout(bytes: &[u8], layout: &mut [u32; LAYOUT_
     words::header_number(said)
 }
 
-#[unsafe(no_mangle)]
-pub extern "C" fn foldgrebe_file_read(
-    bytes: &[u8],
-    image: &mut [u32],
-    layout: &mut [u32; LAYOUT_WORDS],
-) -> u32
+pub fn foldgrebe_file_read(bytes: &[u8], image: &mut [u32], layout: &mut [u32; LAYOUT_WORDS]) -> u32
     ensures { FileReadCall bytes.now image.old result
         bytes.now image.new layout.new }
 {

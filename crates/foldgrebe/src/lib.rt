@@ -1,6 +1,6 @@
-// The face for C: the proved calls over lent words and bytes. include/foldgrebe.h declares them.
+// The face for C: the proved calls over lent words and bytes. include/foldgrebe.h declares them, and the archive foldgrebe_c exports them.
 #![tactic(auto)]
 
-mod file_calls;
-mod patrol_calls;
-mod store_calls;
+pub mod file_calls;
+pub mod patrol_calls;
+pub mod store_calls;

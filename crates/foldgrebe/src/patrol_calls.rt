@@ -5,8 +5,7 @@ ghost use Rattle.foldgrebe.specs.Calls.{FormatCall, AskCall, TurnCall};
 use layout::Layout;
 use words::{RECORD_WORDS, REPORT_WORDS};
 
-#[unsafe(no_mangle)]
-pub extern "C" fn foldgrebe_format(
+pub fn foldgrebe_format(
     image: &mut [u32],
     shape: u32,
     s: u32,
@@ -20,12 +19,7 @@ pub extern "C" fn foldgrebe_format(
     answer.number
 }
 
-#[unsafe(no_mangle)]
-pub extern "C" fn foldgrebe_ask(
-    record: &mut [u32; RECORD_WORDS],
-    block: u32,
-    place: &mut [u32; 1],
-) -> u32
+pub fn foldgrebe_ask(record: &mut [u32; RECORD_WORDS], block: u32, place: &mut [u32; 1]) -> u32
     ensures { AskCall «record».old block result «record».new place.new }
 {
     let answer = words::record_of(*record).ask(block);
@@ -35,8 +29,7 @@ pub extern "C" fn foldgrebe_ask(
     words::place_number(got)
 }
 
-#[unsafe(no_mangle)]
-pub extern "C" fn foldgrebe_turn(
+pub fn foldgrebe_turn(
     record: &mut [u32; RECORD_WORDS],
     image: &mut [u32],
     report: &mut [u32; REPORT_WORDS],

@@ -5,8 +5,7 @@ ghost use Rattle.foldgrebe.specs.Calls.{WriteCall, ReadCall, VisitCall};
 use layout::Layout;
 use words::VERDICT_WORDS;
 
-#[unsafe(no_mangle)]
-pub extern "C" fn foldgrebe_write(
+pub fn foldgrebe_write(
     image: &mut [u32],
     shape: u32,
     s: u32,
@@ -19,8 +18,7 @@ pub extern "C" fn foldgrebe_write(
     words::answer_number(store::write(image, Layout { shape, s, g }, block, list))
 }
 
-#[unsafe(no_mangle)]
-pub extern "C" fn foldgrebe_read(
+pub fn foldgrebe_read(
     image: &[u32],
     shape: u32,
     s: u32,
@@ -37,8 +35,7 @@ pub extern "C" fn foldgrebe_read(
     words::answer_number(answer)
 }
 
-#[unsafe(no_mangle)]
-pub extern "C" fn foldgrebe_visit(
+pub fn foldgrebe_visit(
     image: &mut [u32],
     shape: u32,
     s: u32,
