@@ -92,7 +92,7 @@ Most shape most =
 
 -- ---- worked files
 
--- the specification's own, of version 1, and what it is in version 2: newSample; both hold one image, row 3 is 1 and the data are else zero
+-- the specification's own, of version 1, and what it is in version 2: new_sample; both hold one image, row 3 is 1 and the data are else zero
 abbrev pub sample_image : List ℕ
 sample_image = 0xFFFFFFFF ∷ 0xFFFFFFFF ∷ 1 ∷ replicate 13 0
 
