@@ -25,7 +25,7 @@ by_length len layout passed shape height n = rw (height, shape, n, passed)
 
 pub returns-then-refused-ne0 : goal.returns-then-refused-ne0
 unfolding image_refusal
-returns-then-refused-ne0 c = sym (rw (← c.check-refused.ensures) (then_first _ _ c.if-refused-ne0.true))
+returns-then-refused-ne0 c = sym (rw (← c.check-refused.ensures) (then_first _ _ (λ none. omega arith)))
 
 pub overflow_mul-rows : goal.overflow_mul-rows
 overflow_mul-rows c =

@@ -36,7 +36,8 @@ few_words shape n {height} same few = let tall : height ≤ 72 = rw same (rows_f
 pub returns-then-number-ne0 : goal.returns-then-number-ne0
 unfolding site_of block_refusal
 returns-then-number-ne0 c =
-    locates _ _ _ (sym (rw (← c.check_image-number.ensures, then_first _ _ c.if-number-ne0.true) (nowhere _ _ _ c.if-number-ne0.true)))
+    let refused : c.check_image-number.result ≡ 0 → ⊥ = λ none. omega arith in
+    locates _ _ _ (sym (rw (← c.check_image-number.ensures, then_first _ _ refused) (nowhere _ _ _ refused)))
 
 pub returns-then-blocks-whole : goal.returns-then-blocks-whole
 unfolding site_of block_refusal
