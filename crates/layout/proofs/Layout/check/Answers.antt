@@ -30,19 +30,15 @@ returns-then-s-gt16 c = search tests
 
 pub returns-then-n-eq0 : goal.returns-then-n-eq0
 unfolding layout_refusal
-returns-then-n-eq0 c =
-    let same_test = no_groups c.args.self.s c.args.self.g c.blocks-n.ensures (λ none. omega arith) in
-    rw same_test (search tests)
+returns-then-n-eq0 c = rw (no_groups c.args.self.s c.args.self.g c.blocks-n.ensures (λ none. omega arith)) (search tests)
 
 pub returns-then-n-gt4096 : goal.returns-then-n-gt4096
 unfolding layout_refusal
 returns-then-n-gt4096 c =
-    let same_test = no_groups c.args.self.s c.args.self.g c.blocks-n.ensures (λ none. omega arith) in
-    rw (same_test, ← c.blocks-n.ensures) (search tests)
+    rw (no_groups c.args.self.s c.args.self.g c.blocks-n.ensures (λ none. omega arith), ← c.blocks-n.ensures) (search tests)
 
 pub returns : goal.returns
 unfolding layout_refusal
 returns c =
-    let same_test = no_groups c.args.self.s c.args.self.g c.blocks-n.ensures (λ none. omega arith) in
     let h : c.blocks-n.result < 4097 = omega arith in
-    rw (same_test, ← c.blocks-n.ensures) (search tests)
+    rw (no_groups c.args.self.s c.args.self.g c.blocks-n.ensures (λ none. omega arith), ← c.blocks-n.ensures) (search tests)

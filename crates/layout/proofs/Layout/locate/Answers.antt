@@ -57,13 +57,11 @@ nonzero_rem-within c = let ok = geometry _ (image_layout c.args.self c.args.len 
 
 pub overflow_mul-result-2 : goal.overflow_mul-result-2
 overflow_mul-result-2 c =
-    let line = c.args.block - c.args.block % c.args.self.s in
-    omega (arith, few_words c.shape_of-shape.result line c.rows-height.ensures (omega arith))
+    omega (arith, few_words c.shape_of-shape.result (c.args.block - c.args.block % c.args.self.s) c.rows-height.ensures (omega arith))
 
 pub overflow_add-result : goal.overflow_add-result
 overflow_add-result c =
-    let line = c.args.block - c.args.block % c.args.self.s in
-    omega (arith, few_words c.shape_of-shape.result line c.rows-height.ensures (omega arith), mod-le c.args.block c.args.self.s)
+    omega (arith, few_words c.shape_of-shape.result (c.args.block - c.args.block % c.args.self.s) c.rows-height.ensures (omega arith), mod-le c.args.block)
 
 pub returns : goal.returns
 returns c = lies_at _ _ _ (omega arith) (omega arith) c.shape_of-shape.ensures c.rows-height.ensures (first_row _ _ _)
