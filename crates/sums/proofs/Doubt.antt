@@ -72,7 +72,9 @@ module _ (shape : Shape) (block : List ℕ) where
 
   pub some_doubt : any_of 8 sums ≡ doubtful shape block
   unfolding doubtful any_of
-  some_doubt = number_bits 32 (any_of 8 sums) _ (any_lt 8 (omega arith)) (λ i l. rw (bit_of_or i (any_of 7 sums), bit_any i sums 7, sum_in_lem i l, odd_in_lem i l))
+  some_doubt =
+      number_bits 32 (any_of 8 sums) _ (any_lt 8 (omega arith))
+      (λ i l. rw (bit_of_or i (any_of 7 sums), bit_any i sums 7, sum_in_lem i l, odd_in_lem i l))
 
 -- eight words that are the sums, and kept, are what a look is to find
 pub looks : (shape : Shape) (words : List ℕ) (at s : ℕ) (lent after : List ℕ) (found : ℕ) → at + before shape * s < length words

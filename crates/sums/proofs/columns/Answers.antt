@@ -1,6 +1,6 @@
 -- `sums::columns` meets its contract. The loop's invariant: the columns passed are in their places. Assumes nothing.
-use Prim.Native.Nat.{ℕ, suc, ◌+◌}
-use mathlib.Core.Path.{◌≡◌, refl, sym, ap, ap₂, ◌∙◌}
+use Prim.Native.Nat.{ℕ, ◌+◌}
+use mathlib.Core.Path.{◌≡◌, refl, ap, ◌∙◌}
 use mathlib.Core.List.{List}
 use native.Mathlib.Numerals.{add-one}
 use native.Mathlib.Omega.{arith}
@@ -18,36 +18,34 @@ found-is : (x : ℕ → ℕ) {a b c d b' c' d' : Running} {found : Column} → f
     → found ≡ column_of x
 found-is x e ea eb eb' ec ec' ed ed' = e ∙ rw (ea, eb, eb', ec, ec', ed, ed')
 
+-- one column more: its words in the table, and one word of it in a list
+tabled_more : (x : ℕ → Column) (first : List ℕ) {n : ℕ} {column : Column} {old new : List ℕ} → new ≡ laid old n column → old ≡ tabled first x n → column ≡ x n
+    → new ≡ tabled first x (n + 1)
+unfolding tabled
+tabled_more x first laid_now so_far is = rw add-one (cc)
+
+stores_more : (f : ℕ → ℕ) (first : List ℕ) {n word : ℕ} {old new : List ℕ} → new ≡ set old n word → old ≡ stores first (λ c. c) f n → word ≡ f n
+    → new ≡ stores first (λ c. c) f (n + 1)
+unfolding stores
+stores_more f first set_now so_far is = rw add-one (cc)
+
 pub loop-c-init : goal.loop-c-init
 unfolding tabled stores
 loop-c-init c = (omega arith, refl, refl, refl)
 
 pub loop-c-preserved : goal.loop-c-preserved
-unfolding tabled stores
 loop-c-preserved c =
-    let loop = c.loop-c in
-    let args = c.args in
-    let x : ℕ → Column = λ c. column_of (in_column args.words.now args.at c) in
-    let is = found-is (in_column args.words.now args.at loop.c) c.folded-found.ensures c.three-from_1.ensures
+    let inv = c.loop-c.invariant in
+    let is = found-is (in_column c.args.words.now c.args.at c.loop-c.c) c.folded-found.ensures c.three-from_1.ensures
     c.four-from_4.ensures c.three-from_5.ensures c.four-from_8.ensures c.three-from_9.ensures c.four-from_12.ensures
-    c.three-from_13.ensures in
-    let more : (f : ℕ → List ℕ) → f (loop.c + 1) ≡ f (suc loop.c) = λ f. ap f (add-one loop.c) in (
-      omega (arith, c.loop-c-test.true),
-      c.lay.ensures.table ∙ ap₂ (λ (t : List ℕ) (f : Column). laid t loop.c f) loop.invariant.1 is ∙ sym (more (tabled args.table.now x)),
-      c.lay.ensures.top ∙ ap₂ (λ (t : List ℕ) (f : Column). set t loop.c f.d6) loop.invariant.2 is
-          ∙ sym (more (stores args.top.now (λ c. c) (λ c. (x c).d6))),
-      c.lay.ensures.all ∙ ap₂ (λ (t : List ℕ) (f : Column). set t loop.c f.all) loop.invariant.3 is
-          ∙ sym (more (stores args.all.now (λ c. c) (λ c. (x c).all))),
+    c.three-from_13.ensures in (
+      omega arith,
+      tabled_more _ _ c.lay.ensures.table inv.1 is,
+      stores_more _ _ c.lay.ensures.top inv.2 (ap (λ (f : Column). f.d6) is),
+      stores_more _ _ c.lay.ensures.all inv.3 (ap (λ (f : Column). f.all) is),
     )
 
 pub returns : goal.returns
 returns c =
-    let loop = c.loop-c in
-    let args = c.args in
-    let x : ℕ → Column = λ c. column_of (in_column args.words.now args.at c) in
-    let e : loop.c ≡ 4 = omega (arith, loop.invariant.0) in
-    record {
-      table = loop.invariant.1 ∙ ap (tabled args.table.now x) e;
-      top = loop.invariant.2 ∙ ap (stores args.top.now (λ c. c) (λ c. (x c).d6)) e;
-      all = loop.invariant.3 ∙ ap (stores args.all.now (λ c. c) (λ c. (x c).all)) e;
-    }
+    let e : c.loop-c.c ≡ 4 = omega arith in
+    record { table = rw (← e) c.loop-c.invariant.1; top = rw (← e) c.loop-c.invariant.2; all = rw (← e) c.loop-c.invariant.3 }

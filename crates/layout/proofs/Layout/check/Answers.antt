@@ -1,5 +1,5 @@
 -- `layout::Layout::check` meets its contract, rung by rung. Assumes nothing.
-use Prim.Native.Nat.{◌<◌}
+use Prim.Native.Nat.{ℕ, ◌*◌, ◌<◌}
 use mathlib.Core.Path.{◌≡◌}
 use native.Mathlib.Omega.{arith}
 use lib.Dec.{eqb}
@@ -7,6 +7,10 @@ use Rattle.ground.proofs.Tests.{tests}
 use Rattle.layout.specs.Refusal.{layout_refusal}
 use Rattle.layout.proofs.Ladder.{no_blocks}
 use Rattle.layout.proofs.Layout.check.Goals as goal
+
+-- where s is not 0, no groups are no blocks
+no_groups : (s g : ℕ) {n : ℕ} → n ≡ g * s → (s ≡ 0 → ⊥) → eqb g 0 ≡ eqb n 0
+no_groups s g blocks some = rw blocks (no_blocks s g some)
 
 pub returns-then-shape-eq0 : goal.returns-then-shape-eq0
 unfolding layout_refusal
@@ -26,19 +30,15 @@ returns-then-s-gt16 c = search tests
 
 pub returns-then-n-eq0 : goal.returns-then-n-eq0
 unfolding layout_refusal
-returns-then-n-eq0 c =
-    let same_test : eqb c.args.self.g 0 ≡ eqb c.blocks-n.result 0 = rw c.blocks-n.ensures (no_blocks _ _ c.if-s-eq0.false) in
-    rw same_test (search tests)
+returns-then-n-eq0 c = rw (no_groups c.args.self.s c.args.self.g c.blocks-n.ensures (λ none. omega arith)) (search tests)
 
 pub returns-then-n-gt4096 : goal.returns-then-n-gt4096
 unfolding layout_refusal
 returns-then-n-gt4096 c =
-    let same_test : eqb c.args.self.g 0 ≡ eqb c.blocks-n.result 0 = rw c.blocks-n.ensures (no_blocks _ _ c.if-s-eq0.false) in
-    rw (same_test, ← c.blocks-n.ensures) (search tests)
+    rw (no_groups c.args.self.s c.args.self.g c.blocks-n.ensures (λ none. omega arith), ← c.blocks-n.ensures) (search tests)
 
 pub returns : goal.returns
 unfolding layout_refusal
 returns c =
-    let same_test : eqb c.args.self.g 0 ≡ eqb c.blocks-n.result 0 = rw c.blocks-n.ensures (no_blocks _ _ c.if-s-eq0.false) in
     let h : c.blocks-n.result < 4097 = omega arith in
-    rw (same_test, ← c.blocks-n.ensures) (search tests)
+    rw (no_groups c.args.self.s c.args.self.g c.blocks-n.ensures (λ none. omega arith), ← c.blocks-n.ensures) (search tests)
