@@ -21,19 +21,14 @@ unfolding stride_write stores
 loop-k-init c = (omega arith, refl, refl, omega arith)
 
 pub put_four-requires : goal.put_four-requires
-put_four-requires c = (omega arith, rw (still_long _ _ _ _ _ c.loop-k.invariant.2) (four_inside c.args.at c.args.s c.loop-k.k c.loop-k.invariant.3 c.requires.2 (omega arith)))
-
-pub overflow_mul-i : goal.overflow_mul-i
-overflow_mul-i c = omega arith
+put_four-requires c =
+    let inv = c.loop-k.invariant in
+    (omega arith, rw (still_long _ _ _ _ _ inv.2) (four_inside c.args.at c.args.s c.loop-k.k inv.3 c.requires.2 (omega arith)))
 
 pub overflow_add-i : goal.overflow_add-i
-overflow_add-i c = omega (arith, four_inside c.args.at c.args.s c.loop-k.k c.loop-k.invariant.3 c.requires.2 (omega arith), still_long _ _ _ _ _ c.loop-k.invariant.2)
-
-pub overflow_add-k : goal.overflow_add-k
-overflow_add-k c = omega arith
-
-pub loop-k-smaller : goal.loop-k-smaller
-loop-k-smaller c = omega arith
+overflow_add-i c =
+    let inv = c.loop-k.invariant in
+    omega (arith, four_inside c.args.at c.args.s c.loop-k.k inv.3 c.requires.2 (omega arith), still_long _ _ _ _ _ inv.2)
 
 pub loop-k-preserved : goal.loop-k-preserved
 unfolding stride_write
