@@ -35,12 +35,6 @@ pub loop-k-init : goal.loop-k-init
 unfolding stores
 loop-k-init c = let l = least_of _ _ _ c.least-n.ensures in (omega arith, l.first, l.second, l.either, refl, refl)
 
-pub bounds-rows-k : goal.bounds-rows-k
-bounds-rows-k c = omega (arith, c.loop-k.invariant.1)
-
-pub overflow_cast-p : goal.overflow_cast-p
-overflow_cast-p c = omega (arith, c.type_inv.rows c.loop-k.k)
-
 pub overflow_mul-buffer : goal.overflow_mul-buffer
 overflow_mul-buffer c =
     omega (arith, steps_small (get_or c.args.rows.now c.loop-k.k 0) c.args.s (omega (arith, c.type_inv.rows c.loop-k.k)))
@@ -58,18 +52,12 @@ offset_bounds-words-at c = omega (arith, word_there _ c.args.words.now c.args.at
 pub bounds-words-at : goal.bounds-words-at
 bounds-words-at c = omega (arith, word_there _ c.args.words.now c.args.at c.args.s c.loop-k.k c.requires.2 (omega (arith, c.loop-k.invariant.1)))
 
-pub bounds-buffer-k : goal.bounds-buffer-k
-bounds-buffer-k c = let inv = c.loop-k.invariant in omega (arith, inv.2, inv.5)
-
 pub loop-k-preserved : goal.loop-k-preserved
 unfolding stores
 loop-k-preserved c =
     let inv = c.loop-k.invariant in
     let place = (word_there _ c.args.words.now c.args.at c.args.s c.loop-k.k c.requires.2 (omega (arith, inv.1))).0 in
     (omega arith, inv.1, inv.2, inv.3, rw (add-one, inv.4, place), simp length-set inv.5)
-
-pub shape_of-buffer : goal.shape_of-buffer
-shape_of-buffer c = c.loop-k.invariant.5
 
 pub returns : goal.returns
 returns c =

@@ -20,9 +20,6 @@ pub loop-k-init : goal.loop-k-init
 unfolding stores
 loop-k-init c = (omega arith, refl, refl)
 
-pub offset_bounds-sums-k : goal.offset_bounds-sums-k
-offset_bounds-sums-k c = omega arith
-
 pub overflow_sub-block : goal.overflow_sub-block
 overflow_sub-block c = (check_row {k = c.loop-k.k} (omega arith) c.loop-k.invariant.2).0
 

@@ -34,17 +34,8 @@ pub loop-k-init : goal.loop-k-init
 unfolding stores
 loop-k-init c = let l = least_of _ _ _ c.least-n.ensures in (omega arith, l.first, l.second, l.either, c.requires.2)
 
-pub bounds-rows-k : goal.bounds-rows-k
-bounds-rows-k c = omega (arith, c.loop-k.invariant.1)
-
 pub overflow_cast-p : goal.overflow_cast-p
 overflow_cast-p c = omega (arith, listed 72 _ c.requires.0 c.loop-k.k (omega (arith, c.loop-k.invariant.1)))
-
-pub offset_bounds-list-k : goal.offset_bounds-list-k
-offset_bounds-list-k c = omega (arith, c.loop-k.invariant.2)
-
-pub bounds-list-k : goal.bounds-list-k
-bounds-list-k c = omega (arith, c.loop-k.invariant.2)
 
 pub overflow_sub-block : goal.overflow_sub-block
 overflow_sub-block c = (listed 72 _ c.requires.0 c.loop-k.k (omega (arith, c.loop-k.invariant.1))).0
