@@ -44,19 +44,19 @@ overflow_add-buffer c =
     omega (arith, steps_small (get_or c.args.rows.now c.loop-k.k 0) c.args.s (omega (arith, c.type_inv.rows c.loop-k.k)))
 
 pub overflow_sub-buffer : goal.overflow_sub-buffer
-overflow_sub-buffer c = (word_there _ c.args.words.now c.args.at c.args.s c.loop-k.k c.requires.2 (omega (arith, c.loop-k.invariant.1))).1
+overflow_sub-buffer c = (word_there _ c.args.words.now c.args.at c.args.s c.loop-k.k c.requires.2 (omega arith)).1
 
 pub offset_bounds-words-at : goal.offset_bounds-words-at
-offset_bounds-words-at c = omega (arith, word_there _ c.args.words.now c.args.at c.args.s c.loop-k.k c.requires.2 (omega (arith, c.loop-k.invariant.1)))
+offset_bounds-words-at c = omega (arith, word_there _ c.args.words.now c.args.at c.args.s c.loop-k.k c.requires.2 (omega arith))
 
 pub bounds-words-at : goal.bounds-words-at
-bounds-words-at c = omega (arith, word_there _ c.args.words.now c.args.at c.args.s c.loop-k.k c.requires.2 (omega (arith, c.loop-k.invariant.1)))
+bounds-words-at c = omega (arith, word_there _ c.args.words.now c.args.at c.args.s c.loop-k.k c.requires.2 (omega arith))
 
 pub loop-k-preserved : goal.loop-k-preserved
 unfolding stores
 loop-k-preserved c =
     let inv = c.loop-k.invariant in
-    let place = (word_there _ c.args.words.now c.args.at c.args.s c.loop-k.k c.requires.2 (omega (arith, inv.1))).0 in
+    let place = (word_there _ c.args.words.now c.args.at c.args.s c.loop-k.k c.requires.2 (omega arith)).0 in
     (omega arith, inv.1, inv.2, inv.3, rw (add-one, inv.4, place), simp length-set inv.5)
 
 pub returns : goal.returns

@@ -35,16 +35,16 @@ unfolding stores
 loop-k-init c = let l = least_of _ _ _ c.least-n.ensures in (omega arith, l.first, l.second, l.either, c.requires.2)
 
 pub overflow_cast-p : goal.overflow_cast-p
-overflow_cast-p c = omega (arith, listed 72 _ c.requires.0 c.loop-k.k (omega (arith, c.loop-k.invariant.1)))
+overflow_cast-p c = omega (arith, listed 72 _ c.requires.0 c.loop-k.k (omega arith))
 
 pub overflow_sub-block : goal.overflow_sub-block
-overflow_sub-block c = (listed 72 _ c.requires.0 c.loop-k.k (omega (arith, c.loop-k.invariant.1))).0
+overflow_sub-block c = (listed 72 _ c.requires.0 c.loop-k.k (omega arith)).0
 
 pub offset_bounds-block-p : goal.offset_bounds-block-p
-offset_bounds-block-p c = omega (arith, listed 72 _ c.requires.0 c.loop-k.k (omega (arith, c.loop-k.invariant.1)))
+offset_bounds-block-p c = omega (arith, listed 72 _ c.requires.0 c.loop-k.k (omega arith))
 
 pub bounds-block-p : goal.bounds-block-p
-bounds-block-p c = omega (arith, listed 72 _ c.requires.0 c.loop-k.k (omega (arith, c.loop-k.invariant.1)))
+bounds-block-p c = omega (arith, listed 72 _ c.requires.0 c.loop-k.k (omega arith))
 
 pub loop-k-preserved : goal.loop-k-preserved
 unfolding stores

@@ -21,7 +21,7 @@ site_found answered = located _ _ _ _ _ (sym (locates_is _ _ _ answered))
 
 pub returns-then-buffer-words : goal.returns-then-buffer-words
 returns-then-buffer-words c =
-    read_refused _ _ _ 7 _ (list_refused _ _ _ (site_found c.in-At.ensures) _ (λ e. omega (arith, c.words.ensures))) (λ z. omega arith)
+    read_refused _ _ _ 7 _ (list_refused _ _ _ (site_found c.in-At.ensures) _ (λ e. omega arith)) (λ z. omega arith)
 
 pub overflow_cast-at : goal.overflow_cast-at
 overflow_cast-at c = omega (arith, first_small _ _ _ (site_found c.in-At.ensures))
@@ -33,7 +33,7 @@ pub returns-then-look-eq0 : goal.returns-then-look-eq0
 returns-then-look-eq0 c =
     let site = site_found c.in-At.ensures in
     let room = inside _ _ _ site in
-    read_clean _ site (clean_there _ _ _ _ room c.look.ensures (omega arith)) c.args.buffer.now _ (omega (arith, c.words.ensures))
+    read_clean _ site (clean_there _ _ _ _ room c.look.ensures (omega arith)) c.args.buffer.now _ (omega arith)
     (data_there _ _ _ _ room c.look.ensures c.data_into.ensures)
 
 pub in_doubt-verdict-requires : goal.in_doubt-verdict-requires
@@ -43,7 +43,7 @@ in_doubt-verdict-requires c =
 
 pub returns-in-Lost : goal.returns-in-Lost
 returns-in-Lost c =
-    read_lost _ (site_found c.in-At.ensures) _ refl _ c.in_doubt-verdict.ensures.verdict c.args.buffer.now (omega (arith, c.words.ensures)) _ _ c.in-Lost.is
+    read_lost _ (site_found c.in-At.ensures) _ refl _ c.in_doubt-verdict.ensures.verdict c.args.buffer.now (omega arith) _ _ c.in-Lost.is
 
 pub slice_bounds-data_of-end : goal.slice_bounds-data_of-end
 slice_bounds-data_of-end c =
@@ -60,5 +60,5 @@ pub returns-in_default : goal.returns-in_default
 returns-in_default c =
     let told = c.in_doubt-verdict.ensures in
     let mended = mended_whole _ _ _ _ (not_lost _ _ _ told.verdict c.in_default.not-Lost) told.mended in
-    read_data _ (site_found c.in-At.ensures) _ refl _ told.verdict c.args.buffer.now (omega (arith, c.words.ensures)) c.in_default.not-Lost _ _ mended
+    read_data _ (site_found c.in-At.ensures) _ refl _ told.verdict c.args.buffer.now (omega arith) c.in_default.not-Lost _ _ mended
     (data_gathered _ (mended_size _ _ _ _ mended) c.data_of.ensures)

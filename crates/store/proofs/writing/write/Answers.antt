@@ -20,7 +20,7 @@ site_found answered = located _ _ _ _ _ (sym (locates_is _ _ _ answered))
 
 pub returns-then-list-words : goal.returns-then-list-words
 returns-then-list-words c =
-    write_refused _ _ _ 7 _ (list_refused _ _ _ (site_found c.in-At.ensures) _ (λ e. omega (arith, c.words.ensures))) (λ z. omega arith)
+    write_refused _ _ _ 7 _ (list_refused _ _ _ (site_found c.in-At.ensures) _ (λ e. omega arith)) (λ z. omega arith)
 
 pub scatter-requires : goal.scatter-requires
 scatter-requires c = inside _ _ _ (site_found c.in-At.ensures)
@@ -33,5 +33,5 @@ returns-in-Nowhere c =
 
 pub returns-else-list-words : goal.returns-else-list-words
 returns-else-list-words c =
-    let fits : length c.args.list.now ≡ words c.in-At.shape = omega (arith, c.words.ensures) in
+    let fits : length c.args.list.now ≡ words c.in-At.shape = omega arith in
     write_stored _ (site_found c.in-At.ensures) _ _ _ fits c.encode-valid.ensures c.scatter.ensures
