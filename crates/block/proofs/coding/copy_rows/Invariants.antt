@@ -8,7 +8,8 @@ use Rattle.block.proofs.coding.copy_rows.Given as goal
 abbrev pub invariant-loop-k : goal.invariant-loop-k
 invariant-loop-k l =
     (l.k ≤ l.n) × (l.n ≤ length l.rows) × (l.n ≤ length l.initial.buffer) × (l.n < length l.rows → l.n ≡ length l.initial.buffer)
-    × (l.buffer ≡ stores l.initial.buffer (λ j. j) (λ j. get_or l.words (l.at + (get_or l.rows j 0 - 1) * l.s) 0) l.k) × (length l.buffer ≡ length l.initial.buffer)
+    × (l.buffer ≡ stores l.initial.buffer (λ j. j) (λ j. get_or l.words (l.at + (get_or l.rows j 0 - 1) * l.s) 0) l.k)
+    × (length l.buffer ≡ length l.initial.buffer)
 
 abbrev pub decreases-loop-k : goal.decreases-loop-k
 decreases-loop-k l = l.n - l.k

@@ -13,7 +13,8 @@ use Rattle.block.proofs.DataTables.{data_one_lem, data_two_lem, table_there, tab
 use Rattle.block.proofs.coding.data_of.Goals as goal
 
 -- every row is there, and a table of the shape that is told is copied
-module _ {shape known : Shape} (told : shape ≡ known) (block : List ℕ) (room : 0 + before shape * 1 < length block) {table : List ℕ} (t : DataTable known table) where
+module _ {shape known : Shape} (told : shape ≡ known) (block : List ℕ) (room : 0 + before shape * 1 < length block)
+    {table : List ℕ} (t : DataTable known table) where
   own : DataTable shape table
   own = rw told t
 

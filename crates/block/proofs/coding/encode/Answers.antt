@@ -1,5 +1,5 @@
 -- `block::coding::encode` meets its contract: the words of the sums set the check rows. Assumes nothing.
-use Prim.Native.Nat.{ℕ, ◌^◌, ◌<◌}
+use Prim.Native.Nat.{ℕ}
 use mathlib.Core.Path.{◌≡◌, refl, sym, ap, ap₂, ◌∙◌}
 use mathlib.Core.List.{List}
 use native.Mathlib.Omega.{arith}
@@ -31,19 +31,20 @@ spread-requires-in-Two c = (refl, refl, refl)
 pub returns : goal.returns
 returns c =
     let list : List ℕ = c.args.list.now in
-    let words-fit : (k : ℕ) → get_or list k 0 < 2 ^ 32 = λ k. omega (arith, c.type_inv.list k) in
     let after : List ℕ = c.beside.new.sums in
     let shape : Shape = c.args.shape in
-    let sums : List ℕ = sums_of shape (data_block shape list) in
-    let placed-is : c.match-shape.block ≡ data_block c.args.shape c.args.list.now = let given = c.args.list.now in
-    elim c.match-shape.branch [
-      | in-One w ↦ of_shape w.in-One.is given (w.block-is ∙ table_spread data_one_lem _ given w.spread.ensures refl)
-      | in-Two w ↦ of_shape w.in-Two.is given (w.block-is ∙ table_spread data_two_lem _ given w.spread-in-Two.ensures refl)
+    let placed : List ℕ = data_block shape list in
+    let sums : List ℕ = sums_of shape placed in
+    let placed-is : c.match-shape.block ≡ placed = elim c.match-shape.branch [
+      | in-One w ↦ of_shape w.in-One.is list (w.block-is ∙ table_spread data_one_lem _ list w.spread.ensures refl)
+      | in-Two w ↦ of_shape w.in-Two.is list (w.block-is ∙ table_spread data_two_lem _ list w.spread-in-Two.ensures refl)
     ] in
-    let stored_is : c.complement_block.new.block ≡ complemented (data_block c.args.shape c.args.list.now) = c.complement_block.ensures ∙ ap complemented placed-is in
+    let stored_is : c.complement_block.new.block ≡ complemented placed = c.complement_block.ensures ∙ ap complemented placed-is in
     let sums-are : after ≡ sums = own_sums shape list stored_is c.beside.ensures in
-    let last-is : bit_xor (get_or after 7 0) c.xor_all.result ≡ bit_xor (get_or sums 7 0) (xor_all 7 sums) = ap₂ bit_xor (ap (λ (s : List ℕ). get_or s 7 0) sums-are) (c.xor_all.ensures ∙ ap (xor_all 7) sums-are) in
-    let checks-are : c.set_checks.new.block ≡ with_checks sums (data_block shape list) = c.set_checks.ensures ∙ ap₂ with_checks sums-are stored_is ∙ checks_over sums (data_block shape list) in
+    let last-is : bit_xor (get_or after 7 0) c.xor_all.result ≡ bit_xor (get_or sums 7 0) (xor_all 7 sums)
+    = ap₂ bit_xor (ap (λ (s : List ℕ). get_or s 7 0) sums-are) (c.xor_all.ensures ∙ ap (xor_all 7) sums-are) in
+    let checks-are : c.set_checks.new.block ≡ with_checks sums placed
+    = c.set_checks.ensures ∙ ap₂ with_checks sums-are stored_is ∙ checks_over sums placed in
     ap₂ (λ (w : List ℕ) (k : ℕ). set w k (bit_xor (get_or after 7 0) c.xor_all.result)) checks-are c.rows_before-at.ensures
-    ∙ ap (set (with_checks sums (data_block shape list)) (before shape)) last-is
-    ∙ built shape list words-fit
+    ∙ ap (set (with_checks sums placed) (before shape)) last-is
+    ∙ built shape list (λ k. omega (arith, c.type_inv.list k))

@@ -34,38 +34,17 @@ pub loop-k-init : goal.loop-k-init
 unfolding stores
 loop-k-init c = let l = least_of _ _ _ c.least-n.ensures in (omega arith, l.first, l.second, l.either, c.requires.2)
 
-pub bounds-rows-k : goal.bounds-rows-k
-bounds-rows-k c = omega (arith, c.loop-k.invariant.1)
-
 pub overflow_cast-p : goal.overflow_cast-p
-overflow_cast-p c =
-    let put : ℕ = get_or c.args.rows.now c.loop-k.k 0 in
-    let there : (1 ≤ put) × (put ≤ 72) = listed 72 _ c.requires.0 c.loop-k.k (omega (arith, c.loop-k-test.true, c.loop-k.invariant.1)) in
-    omega (arith, there)
-
-pub offset_bounds-list-k : goal.offset_bounds-list-k
-offset_bounds-list-k c = omega (arith, c.loop-k.invariant.2)
-
-pub bounds-list-k : goal.bounds-list-k
-bounds-list-k c = omega (arith, c.loop-k.invariant.2)
+overflow_cast-p c = omega (arith, listed 72 _ c.requires.0 c.loop-k.k (omega arith))
 
 pub overflow_sub-block : goal.overflow_sub-block
-overflow_sub-block c =
-    let put : ℕ = get_or c.args.rows.now c.loop-k.k 0 in
-    let there : (1 ≤ put) × (put ≤ 72) = listed 72 _ c.requires.0 c.loop-k.k (omega (arith, c.loop-k-test.true, c.loop-k.invariant.1)) in
-    there.0
+overflow_sub-block c = (listed 72 _ c.requires.0 c.loop-k.k (omega arith)).0
 
 pub offset_bounds-block-p : goal.offset_bounds-block-p
-offset_bounds-block-p c =
-    let put : ℕ = get_or c.args.rows.now c.loop-k.k 0 in
-    let there : (1 ≤ put) × (put ≤ 72) = listed 72 _ c.requires.0 c.loop-k.k (omega (arith, c.loop-k-test.true, c.loop-k.invariant.1)) in
-    omega (arith, there)
+offset_bounds-block-p c = omega (arith, listed 72 _ c.requires.0 c.loop-k.k (omega arith))
 
 pub bounds-block-p : goal.bounds-block-p
-bounds-block-p c =
-    let put : ℕ = get_or c.args.rows.now c.loop-k.k 0 in
-    let there : (1 ≤ put) × (put ≤ 72) = listed 72 _ c.requires.0 c.loop-k.k (omega (arith, c.loop-k-test.true, c.loop-k.invariant.1)) in
-    omega (arith, there)
+bounds-block-p c = omega (arith, listed 72 _ c.requires.0 c.loop-k.k (omega arith))
 
 pub loop-k-preserved : goal.loop-k-preserved
 unfolding stores

@@ -1,58 +1,48 @@
 -- `block::mending::decide` meets its contract: the words decide as the definitions do. Assumes nothing.
 use Prim.Native.Nat.{ℕ, ◌-◌, ◌^◌, ◌<◌}
-use mathlib.Core.Path.{◌≡◌, sym, ap, ap₂, ◌∙◌}
+use mathlib.Core.Path.{◌≡◌}
 use mathlib.Core.List.{List}
 use native.Mathlib.Omega.{arith}
 use lib.Bits.{bit_and, bit_or}
 use lib.Count.{ones}
 use lib.ListN.{get_or}
-use Rattle.lane.specs.Decision.{Kind, even, beyond}
 use Rattle.shape.specs.declared.Shape.{Shape}
 use Rattle.shape.specs.Shape.{before}
-use Rattle.block.specs.declared.Verdict.TheVariants.{Mended, Lost}
-use Rattle.block.specs.Verdict.{said_of}
+use Rattle.block.specs.declared.Verdict.TheVariants.{Clean, Mended, Lost}
 use Rattle.sums.specs.Inner.{any_of}
-use Rattle.block.specs.Inner.{lost_lanes}
+use Rattle.block.specs.Sums.{Decides}
+use Rattle.block.specs.Inner.{above_of}
 use Rattle.block.proofs.Judged.{lost_decides, clean_decides, mended_decides}
 use Rattle.block.proofs.mending.decide.Goals as goal
 
+-- the words of the lanes with a sum, of the odd lanes, and of those above the rows, as the code has them
+module _ (shape : Shape) (sums : List ℕ) {some parity over : ℕ}
+    (some-is : some ≡ any_of 7 sums) (parity-is : parity ≡ get_or sums 7 0) (over-is : over ≡ above_of (before shape) 7 sums)
+    (some-lt : some < 2 ^ 32) (parity-lt : parity < 2 ^ 32) where
+  abbrev even_lost : ℕ
+  even_lost = bit_and some ((2 ^ 32 - 1) - parity)
+
+  abbrev beyond_lost : ℕ
+  beyond_lost = bit_and parity over
+
+  -- they decide the block as its sums do
+  lost_told : (bit_or even_lost beyond_lost ≡ 0 → ⊥) → Decides shape sums (Lost (ones even_lost) (ones beyond_lost))
+  lost_told = rw (some-is, parity-is, over-is) (lost_decides shape sums (omega arith) (omega arith))
+
+  clean_told : bit_or even_lost beyond_lost ≡ 0 → parity ≡ 0 → Decides shape sums Clean
+  clean_told = rw (some-is, parity-is, over-is) (clean_decides shape sums (omega arith) (omega arith))
+
+  mended_told : bit_or even_lost beyond_lost ≡ 0 → (parity ≡ 0 → ⊥) → Decides shape sums (Mended (ones parity))
+  mended_told = rw (some-is, parity-is, over-is) (mended_decides shape sums (omega arith) (omega arith))
+
 pub returns-then-even-beyond-ne0 : goal.returns-then-even-beyond-ne0
 returns-then-even-beyond-ne0 c =
-    let sums : List ℕ = c.args.sums.now in
-    let parity-is : c.odd-parity.result ≡ get_or sums 7 0 = c.odd-parity.ensures in
-    let parity-lt : get_or sums 7 0 < 2 ^ 32 = let h : c.odd-parity.result < 2 ^ 32 = omega arith in omega (arith, parity-is) in
-    let shape : Shape = c.args.shape in
-    let lanes : Kind → ℕ = lost_lanes (before shape) (get_or sums 7 0) sums in
-    let even_is : bit_and c.any.result ((2 ^ 32 - 1) - c.odd-parity.result) ≡ lanes even = ap₂ (λ (x y : ℕ). bit_and x ((2 ^ 32 - 1) - y)) c.any.ensures parity-is in
-    let beyond-is : bit_and c.odd-parity.result c.above.result ≡ lanes beyond = ap₂ bit_and parity-is c.above.ensures in
-    let some-lost : bit_or (lanes even) (lanes beyond) ≡ 0 → ⊥ = λ e. c.if-even-beyond-ne0.true (ap₂ bit_or even_is beyond-is ∙ e) in
-    let any-lt : any_of 7 sums < 2 ^ 32 = let h : c.any.result < 2 ^ 32 = omega arith in omega (arith, c.any.ensures) in
-    ap₂ (λ (x y : ℕ). said_of (Lost (ones x) (ones y))) even_is beyond-is
-    ∙ lost_decides shape sums parity-lt any-lt some-lost
+    lost_told c.args.shape _ c.any.ensures c.odd-parity.ensures c.above.ensures (omega arith) (omega arith) (λ e. omega arith)
 
 pub returns-then-parity-eq0 : goal.returns-then-parity-eq0
 returns-then-parity-eq0 c =
-    let sums : List ℕ = c.args.sums.now in
-    let parity-is : c.odd-parity.result ≡ get_or sums 7 0 = c.odd-parity.ensures in
-    let parity-lt : get_or sums 7 0 < 2 ^ 32 = let h : c.odd-parity.result < 2 ^ 32 = omega arith in omega (arith, parity-is) in
-    let shape : Shape = c.args.shape in
-    let any-lt : any_of 7 sums < 2 ^ 32 = let h : c.any.result < 2 ^ 32 = omega arith in omega (arith, c.any.ensures) in
-    let lanes : Kind → ℕ = lost_lanes (before shape) (get_or sums 7 0) sums in
-    let even_is : bit_and c.any.result ((2 ^ 32 - 1) - c.odd-parity.result) ≡ lanes even = ap₂ (λ (x y : ℕ). bit_and x ((2 ^ 32 - 1) - y)) c.any.ensures parity-is in
-    let beyond-is : bit_and c.odd-parity.result c.above.result ≡ lanes beyond = ap₂ bit_and parity-is c.above.ensures in
-    let none_lost : bit_or (lanes even) (lanes beyond) ≡ 0 = sym (ap₂ bit_or even_is beyond-is) ∙ c.if-even-beyond-ne0.false in
-    clean_decides shape sums parity-lt any-lt none_lost (sym parity-is ∙ c.if-parity-eq0.true)
+    clean_told c.args.shape _ c.any.ensures c.odd-parity.ensures c.above.ensures (omega arith) (omega arith) (omega arith) (omega arith)
 
 pub returns : goal.returns
 returns c =
-    let sums : List ℕ = c.args.sums.now in
-    let parity-is : c.odd-parity.result ≡ get_or sums 7 0 = c.odd-parity.ensures in
-    let parity-lt : get_or sums 7 0 < 2 ^ 32 = let h : c.odd-parity.result < 2 ^ 32 = omega arith in omega (arith, parity-is) in
-    let shape : Shape = c.args.shape in
-    let any-lt : any_of 7 sums < 2 ^ 32 = let h : c.any.result < 2 ^ 32 = omega arith in omega (arith, c.any.ensures) in
-    let lanes : Kind → ℕ = lost_lanes (before shape) (get_or sums 7 0) sums in
-    let even_is : bit_and c.any.result ((2 ^ 32 - 1) - c.odd-parity.result) ≡ lanes even = ap₂ (λ (x y : ℕ). bit_and x ((2 ^ 32 - 1) - y)) c.any.ensures parity-is in
-    let beyond-is : bit_and c.odd-parity.result c.above.result ≡ lanes beyond = ap₂ bit_and parity-is c.above.ensures in
-    let none_lost : bit_or (lanes even) (lanes beyond) ≡ 0 = sym (ap₂ bit_or even_is beyond-is) ∙ c.if-even-beyond-ne0.false in
-    ap (λ (w : ℕ). said_of (Mended (ones w))) parity-is
-    ∙ mended_decides shape sums parity-lt any-lt none_lost (λ z. c.if-parity-eq0.false (parity-is ∙ z))
+    mended_told c.args.shape _ c.any.ensures c.odd-parity.ensures c.above.ensures (omega arith) (omega arith) (omega arith) (λ e. omega arith)

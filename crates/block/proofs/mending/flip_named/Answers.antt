@@ -1,102 +1,73 @@
 -- `block::mending::flip_named` meets its contract. The loop's invariant: the lanes that are not left are flipped. Assumes nothing.
-use Prim.Native.Nat.{ℕ, ◌≤◌, ◌<◌}
+use Prim.Native.Nat.{ℕ, ◌≤◌, ◌<◌, ◌^◌}
 use mathlib.Core.Bool.{true}
+use mathlib.Core.List.{List}
 use mathlib.Core.Path.{◌≡◌, ap, ◌∙◌}
 use native.Mathlib.Nat.{le_refl}
 use native.Mathlib.Omega.{arith}
 use lib.Count.{count_trailing_zeros}
 use Rattle.lane.specs.Bit.{bit}
 use Rattle.sums.specs.Sums.{sum_in}
+use Rattle.block.specs.Inner.{row_named}
 use Rattle.block.proofs.Flips.{trailing_set, clear_less, one_lane, named_there, done_but, none_done, all_done, next_done, next_within}
 use Rattle.block.proofs.mending.flip_named.Goals as goal
+
+-- the lowest lane left is one of the 32, and is left
+lowest_left : {left : ℕ} → left < 2 ^ 32 → (left ≡ 0 → ⊥) → (count_trailing_zeros 32 left < 32) × (bit (count_trailing_zeros 32 left) left ≡ true)
+lowest_left {left} = trailing_set 32 left
+
+-- and the row that its sum names is one of the block's
+row_there : (last : ℕ) (digits : List ℕ) (lanes : ℕ) {left p : ℕ}
+    → (1 ≤ last) × (last ≤ 72) × ((i : ℕ) → i < 32 → bit i lanes ≡ true → sum_in digits i < last)
+    → ((i : ℕ) → bit i left ≡ true → bit i lanes ≡ true)
+    → left < 2 ^ 32 → (left ≡ 0 → ⊥) → p ≡ row_named last (sum_in digits (count_trailing_zeros 32 left)) → (1 ≤ p) × (p ≤ 72)
+row_there last digits lanes named within fits some p-is =
+    let low = lowest_left fits some in
+    rw p-is (named_there _ _ named.0 named.1 (named.2 _ low.0 (within _ low.1)))
 
 pub loop-left-init : goal.loop-left-init
 loop-left-init c = (none_done c.args.last c.args.sums.now c.args.block.now c.args.lanes, λ i e. e, le_refl _)
 
 pub row_named-p-requires : goal.row_named-p-requires
-row_named-p-requires c =
-    let lowest : ℕ = count_trailing_zeros 32 c.loop-left.left in
-    let low : (lowest < 32) × (bit lowest c.loop-left.left ≡ true) = trailing_set 32 c.loop-left.left (omega arith) c.loop-left-test.true in
-    low.0
+row_named-p-requires c = (lowest_left {left = c.loop-left.left} (omega arith) (λ e. omega arith)).0
 
 pub overflow_shl-lane : goal.overflow_shl-lane
-overflow_shl-lane c =
-    let lowest : ℕ = count_trailing_zeros 32 c.loop-left.left in
-    let low : (lowest < 32) × (bit lowest c.loop-left.left ≡ true) = trailing_set 32 c.loop-left.left (omega arith) c.loop-left-test.true in
-    low.0
+overflow_shl-lane c = (lowest_left {left = c.loop-left.left} (omega arith) (λ e. omega arith)).0
 
 pub overflow_sub-block : goal.overflow_sub-block
-overflow_sub-block c =
-    let lowest : ℕ = count_trailing_zeros 32 c.loop-left.left in
-    let low : (lowest < 32) × (bit lowest c.loop-left.left ≡ true) = trailing_set 32 c.loop-left.left (omega arith) c.loop-left-test.true in
-    let there : (1 ≤ c.row_named-p.result) × (c.row_named-p.result ≤ 72) = let i = lowest in
-    let l = low in
-    let h = c.requires.2 i l.0 (c.loop-left.invariant.1 i l.1) in
-    rw c.row_named-p.ensures (named_there c.args.last (sum_in c.args.sums.now i) c.requires.0 c.requires.1 h) in
-    there.0
+overflow_sub-block c = (row_there _ c.args.sums.now c.args.lanes c.requires c.loop-left.invariant.1 (omega arith) (λ e. omega arith) c.row_named-p.ensures).0
 
 pub offset_bounds-block-p : goal.offset_bounds-block-p
 offset_bounds-block-p c =
-    let lowest : ℕ = count_trailing_zeros 32 c.loop-left.left in
-    let low : (lowest < 32) × (bit lowest c.loop-left.left ≡ true) = trailing_set 32 c.loop-left.left (omega arith) c.loop-left-test.true in
-    let there : (1 ≤ c.row_named-p.result) × (c.row_named-p.result ≤ 72) = let i = lowest in
-    let l = low in
-    let h = c.requires.2 i l.0 (c.loop-left.invariant.1 i l.1) in
-    rw c.row_named-p.ensures (named_there c.args.last (sum_in c.args.sums.now i) c.requires.0 c.requires.1 h) in
-    omega (arith, there)
+    omega (arith, row_there _ c.args.sums.now c.args.lanes c.requires c.loop-left.invariant.1 (omega arith) (λ e. omega arith) c.row_named-p.ensures)
 
 pub bounds-block-p : goal.bounds-block-p
 bounds-block-p c =
-    let lowest : ℕ = count_trailing_zeros 32 c.loop-left.left in
-    let low : (lowest < 32) × (bit lowest c.loop-left.left ≡ true) = trailing_set 32 c.loop-left.left (omega arith) c.loop-left-test.true in
-    let there : (1 ≤ c.row_named-p.result) × (c.row_named-p.result ≤ 72) = let i = lowest in
-    let l = low in
-    let h = c.requires.2 i l.0 (c.loop-left.invariant.1 i l.1) in
-    rw c.row_named-p.ensures (named_there c.args.last (sum_in c.args.sums.now i) c.requires.0 c.requires.1 h) in
-    omega (arith, there)
+    omega (arith, row_there _ c.args.sums.now c.args.lanes c.requires c.loop-left.invariant.1 (omega arith) (λ e. omega arith) c.row_named-p.ensures)
 
 pub bounds-block-p-in-loop-left : goal.bounds-block-p-in-loop-left
 bounds-block-p-in-loop-left c =
-    let lowest : ℕ = count_trailing_zeros 32 c.loop-left.left in
-    let low : (lowest < 32) × (bit lowest c.loop-left.left ≡ true) = trailing_set 32 c.loop-left.left (omega arith) c.loop-left-test.true in
-    let there : (1 ≤ c.row_named-p.result) × (c.row_named-p.result ≤ 72) = let i = lowest in
-    let l = low in
-    let h = c.requires.2 i l.0 (c.loop-left.invariant.1 i l.1) in
-    rw c.row_named-p.ensures (named_there c.args.last (sum_in c.args.sums.now i) c.requires.0 c.requires.1 h) in
-    omega (arith, there)
+    omega (arith, row_there _ c.args.sums.now c.args.lanes c.requires c.loop-left.invariant.1 (omega arith) (λ e. omega arith) c.row_named-p.ensures)
 
 pub loop-left-smaller : goal.loop-left-smaller
 loop-left-smaller c =
-    let lowest : ℕ = count_trailing_zeros 32 c.loop-left.left in
-    let low : (lowest < 32) × (bit lowest c.loop-left.left ≡ true) = trailing_set 32 c.loop-left.left (omega arith) c.loop-left-test.true in
-    let left = c.loop-left.left in
-    let i = lowest in
-    let l = low in
-    rw (one_lane i l.0) (clear_less left i (omega arith) l.0 l.1)
+    let low = lowest_left {left = c.loop-left.left} (omega arith) (λ e. omega arith) in
+    rw (one_lane _ low.0) (clear_less _ _ (omega arith) low.0 low.1)
 
 pub loop-left-preserved : goal.loop-left-preserved
 loop-left-preserved c =
-    let lowest : ℕ = count_trailing_zeros 32 c.loop-left.left in
-    let low : (lowest < 32) × (bit lowest c.loop-left.left ≡ true) = trailing_set 32 c.loop-left.left (omega arith) c.loop-left-test.true in
-    let there : (1 ≤ c.row_named-p.result) × (c.row_named-p.result ≤ 72) = let i = lowest in
-    let l = low in
-    let h = c.requires.2 i l.0 (c.loop-left.invariant.1 i l.1) in
-    rw c.row_named-p.ensures (named_there c.args.last (sum_in c.args.sums.now i) c.requires.0 c.requires.1 h) in
     let args = c.args in
-    let left = c.loop-left.left in
     let inv = c.loop-left.invariant in
-    let i = lowest in
-    let l = low in
-    let t = there in
-    rw (one_lane i l.0, inv.0) (
-      next_done args.last args.sums.now args.block.now args.lanes left i l.0 l.1 inv.1 c.row_named-p.result
-          c.row_named-p.ensures t.0,
-      next_within args.last args.sums.now args.block.now args.lanes left i l.0 l.1 inv.1,
-      omega (arith, inv.2, clear_less left i (omega arith) l.0 l.1),
+    let low = lowest_left {left = c.loop-left.left} (omega arith) (λ e. omega arith) in
+    let row = row_there _ c.args.sums.now c.args.lanes c.requires inv.1 (omega arith) (λ e. omega arith) c.row_named-p.ensures in
+    rw (one_lane _ low.0, inv.0) (
+      next_done args.last args.sums.now args.block.now args.lanes _ _ low.0 low.1 inv.1 _ c.row_named-p.ensures row.0,
+      next_within args.last args.sums.now args.block.now args.lanes _ _ low.0 low.1 inv.1,
+      omega (arith, inv.2, clear_less _ _ (omega arith) low.0 low.1),
     )
 
 pub returns : goal.returns
 returns c =
     let args = c.args in
-    c.loop-left.invariant.0 ∙ ap (done_but args.last args.sums.now args.block.now args.lanes) c.loop-left-test.false
+    c.loop-left.invariant.0 ∙ ap (done_but args.last args.sums.now args.block.now args.lanes) (omega arith)
     ∙ all_done args.last args.sums.now args.block.now args.lanes

@@ -1,7 +1,7 @@
 -- `block::mending::row_named` meets its contract. The loop's invariant: the sum is that of the digits passed. Assumes nothing.
-use Prim.Native.Nat.{ℕ, ◌≤◌, ◌^◌}
-use mathlib.Core.Bool.{Bool}
-use mathlib.Core.Path.{◌≡◌, refl, sym, ap, ◌∙◌}
+use Prim.Native.Nat.{ℕ, ◌≤◌, ◌<◌, ◌^◌}
+use mathlib.Core.List.{List}
+use mathlib.Core.Path.{◌≡◌, refl, ap, ◌∙◌}
 use native.Mathlib.Nat.{pow-suc}
 use native.Mathlib.Numerals.{add-one}
 use native.Mathlib.Omega.{arith}
@@ -15,21 +15,24 @@ use Rattle.sums.proofs.WordBits.{digit_one, digit_zero, number_lt}
 use Rattle.block.proofs.mending.row_named.Goals.{then-sums-k-eq1, else-sums-k-eq1}
 use Rattle.block.proofs.mending.row_named.Goals as goal
 
+-- the weight of a digit is at most the last's
+weight_small : {k : ℕ} → k < 7 → 2 ^ k ≤ 64
+weight_small {k} h = pow_mono {i = k} {j = 6} (omega arith)
+
+-- the number that all seven digits make is the lane's sum
+all_digits : (sums : List ℕ) (i : ℕ) {k sum : ℕ} → sum ≡ number k (λ j. bit i (get_or sums j 0)) → k ≡ 7 → sum ≡ sum_in sums i
+all_digits sums i e h = e ∙ ap (λ (k : ℕ). number k (λ j. bit i (get_or sums j 0))) h
+
 pub loop-k-init : goal.loop-k-init
 unfolding number
 loop-k-init c = (omega arith, refl, refl)
 
 pub overflow_add-sum : goal.overflow_add-sum
 overflow_add-sum c =
-    let small : 2 ^ c.loop-k.k ≤ 64 = pow_mono {i = c.loop-k.k} {j = 6} (omega arith) in
-    let digit : ℕ → Bool = λ j. bit c.args.i (get_or c.args.sums.now j 0) in
-    let h = small in
-    omega (arith, number_lt c.loop-k.k digit)
+    omega (arith, weight_small {k = c.loop-k.k} (omega arith), number_lt c.loop-k.k (λ j. bit c.args.i (get_or c.args.sums.now j 0)))
 
 pub overflow_mul-weight : goal.overflow_mul-weight
-overflow_mul-weight c =
-    let small : 2 ^ c.loop-k.k ≤ 64 = pow_mono {i = c.loop-k.k} {j = 6} (omega arith) in
-    let h = small in omega arith
+overflow_mul-weight c = omega (arith, weight_small {k = c.loop-k.k} (omega arith))
 
 pub loop-k-preserved : goal.loop-k-preserved
 unfolding number
@@ -48,16 +51,10 @@ loop-k-preserved c =
 
 pub returns-then-sum-eq0 : goal.returns-then-sum-eq0
 returns-then-sum-eq0 c =
-    let named : ℕ = sum_in c.args.sums.now c.args.i in
-    let digit : ℕ → Bool = λ j. bit c.args.i (get_or c.args.sums.now j 0) in
-    let whole : c.loop-k.sum ≡ named = let e : c.loop-k.k ≡ 7 = omega arith in
-    c.loop-k.invariant.1 ∙ ap (λ (k : ℕ). number k digit) e in
-    rw (eq-eqb named 0 (sym whole ∙ c.if-sum-eq0.true))
+    let whole = all_digits c.args.sums.now c.args.i c.loop-k.invariant.1 (omega arith) in
+    rw (eq-eqb (sum_in c.args.sums.now c.args.i) 0 (omega arith))
 
 pub returns-else-sum-eq0 : goal.returns-else-sum-eq0
 returns-else-sum-eq0 c =
-    let named : ℕ = sum_in c.args.sums.now c.args.i in
-    let digit : ℕ → Bool = λ j. bit c.args.i (get_or c.args.sums.now j 0) in
-    let whole : c.loop-k.sum ≡ named = let e : c.loop-k.k ≡ 7 = omega arith in
-    c.loop-k.invariant.1 ∙ ap (λ (k : ℕ). number k digit) e in
-    rw (ne_eqb named 0 (λ e. c.if-sum-eq0.false (whole ∙ e))) whole
+    let whole = all_digits c.args.sums.now c.args.i c.loop-k.invariant.1 (omega arith) in
+    rw (ne_eqb (sum_in c.args.sums.now c.args.i) 0 (λ e. omega arith)) whole

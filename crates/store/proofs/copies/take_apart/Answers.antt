@@ -16,17 +16,8 @@ take_four-requires c =
     let loop = c.loop-k in
     (omega arith, four_inside c.args.at c.args.s loop.k loop.invariant.3 c.requires.2 (omega arith))
 
-pub overflow_mul-i : goal.overflow_mul-i
-overflow_mul-i c = omega arith
-
 pub overflow_add-i : goal.overflow_add-i
 overflow_add-i c = omega (arith, four_inside c.args.at c.args.s c.loop-k.k c.loop-k.invariant.3 c.requires.2 (omega arith))
-
-pub overflow_add-k : goal.overflow_add-k
-overflow_add-k c = omega arith
-
-pub loop-k-smaller : goal.loop-k-smaller
-loop-k-smaller c = omega arith
 
 pub loop-k-preserved : goal.loop-k-preserved
 unfolding stride_read

@@ -1,51 +1,49 @@
 -- `store::reading::read` meets its contract: refused, clean with the data where they lie, lost with the buffer as it was, or mended. Assumes nothing.
-use mathlib.Core.Path.{◌≡◌, refl, sym}
+use Prim.Native.Nat.{ℕ}
+use mathlib.Core.Path.{refl, sym}
 use native.Mathlib.Omega.{arith}
 use lib.ListN.{length}
-use Rattle.shape.specs.Shape.{words}
-use Rattle.layout.proofs.Sites.{located, locates_is}
+use Rattle.shape.specs.declared.Shape.{Shape}
+use Rattle.layout.specs.declared.Layout.{Layout}
+use Rattle.layout.specs.declared.Site.TheVariants.{At}
+use Rattle.layout.specs.Site.{Locates}
+use Rattle.layout.proofs.Sites.{Located, located, locates_is}
 use Rattle.store.proofs.Calls.{read_refused, read_lost, read_data, read_clean}
 use Rattle.store.proofs.Located.{inside, first_small, data_refused, list_refused}
 use Rattle.store.proofs.Strides.{mended_size, mended_whole, clean_there, sums_there, data_there, data_gathered}
 use Rattle.block.proofs.Told.{not_lost}
 use Rattle.store.proofs.reading.read.Goals as goal
 
+-- the site that is answered is the block's
+site_found : {len : ℕ} {layout : Layout} {block : ℕ} {shape : Shape} {at : ℕ} → Locates len layout block (At shape at)
+    → Located len layout block shape at
+site_found answered = located _ _ _ _ _ (sym (locates_is _ _ _ answered))
+
 pub returns-then-buffer-words : goal.returns-then-buffer-words
 returns-then-buffer-words c =
-    let site = located _ _ _ _ _ (sym (locates_is _ _ _ c.in-At.ensures)) in
-    read_refused _ _ _ 7 _
-    (list_refused _ _ _ site _ (λ e. omega (arith, c.if-buffer-words.true, c.words.ensures)))
-    (λ z. omega arith)
+    read_refused _ _ _ 7 _ (list_refused _ _ _ (site_found c.in-At.ensures) _ (λ e. omega arith)) (λ z. omega arith)
 
 pub overflow_cast-at : goal.overflow_cast-at
-overflow_cast-at c =
-    let site = located _ _ _ _ _ (sym (locates_is _ _ _ c.in-At.ensures)) in
-    omega (arith, first_small _ _ _ site)
+overflow_cast-at c = omega (arith, first_small _ _ _ (site_found c.in-At.ensures))
 
 pub overflow_cast-at-then-look-eq0 : goal.overflow_cast-at-then-look-eq0
-overflow_cast-at-then-look-eq0 c =
-    let site = located _ _ _ _ _ (sym (locates_is _ _ _ c.in-At.ensures)) in
-    omega (arith, first_small _ _ _ site)
+overflow_cast-at-then-look-eq0 c = omega (arith, first_small _ _ _ (site_found c.in-At.ensures))
 
 pub returns-then-look-eq0 : goal.returns-then-look-eq0
 returns-then-look-eq0 c =
-    let site = located _ _ _ _ _ (sym (locates_is _ _ _ c.in-At.ensures)) in
-    let fits : length c.args.buffer.now ≡ words c.in-At.shape = omega (arith, c.if-buffer-words.false, c.words.ensures) in
-    let there = c.look.ensures in
-    let none : c.look.result ≡ 0 = omega (arith, c.if-look-eq0.true) in
-    read_clean _ site (clean_there _ _ _ _ (inside _ _ _ site) there none) _ _ fits
-    (data_there _ _ _ _ (inside _ _ _ site) there c.data_into.ensures)
+    let site = site_found c.in-At.ensures in
+    let room = inside _ _ _ site in
+    read_clean _ site (clean_there _ _ _ _ room c.look.ensures (omega arith)) c.args.buffer.now _ (omega arith)
+    (data_there _ _ _ _ room c.look.ensures c.data_into.ensures)
 
 pub in_doubt-verdict-requires : goal.in_doubt-verdict-requires
 in_doubt-verdict-requires c =
-    let site = located _ _ _ _ _ (sym (locates_is _ _ _ c.in-At.ensures)) in
-    (inside _ _ _ site, sums_there _ _ _ _ (inside _ _ _ site) c.look.ensures c.if-look-eq0.false, refl)
+    let room = inside _ _ _ (site_found c.in-At.ensures) in
+    (room, sums_there _ _ _ _ room c.look.ensures (λ e. omega arith), refl)
 
 pub returns-in-Lost : goal.returns-in-Lost
 returns-in-Lost c =
-    let site = located _ _ _ _ _ (sym (locates_is _ _ _ c.in-At.ensures)) in
-    let fits : length c.args.buffer.now ≡ words c.in-At.shape = omega (arith, c.if-buffer-words.false, c.words.ensures) in
-    read_lost _ site _ refl _ c.in_doubt-verdict.ensures.verdict _ fits _ _ c.in-Lost.is
+    read_lost _ (site_found c.in-At.ensures) _ refl _ c.in_doubt-verdict.ensures.verdict c.args.buffer.now (omega arith) _ _ c.in-Lost.is
 
 pub slice_bounds-data_of-end : goal.slice_bounds-data_of-end
 slice_bounds-data_of-end c =
@@ -60,9 +58,7 @@ returns-in-Nowhere c =
 
 pub returns-in_default : goal.returns-in_default
 returns-in_default c =
-    let site = located _ _ _ _ _ (sym (locates_is _ _ _ c.in-At.ensures)) in
-    let fits : length c.args.buffer.now ≡ words c.in-At.shape = omega (arith, c.if-buffer-words.false, c.words.ensures) in
     let told = c.in_doubt-verdict.ensures in
     let mended = mended_whole _ _ _ _ (not_lost _ _ _ told.verdict c.in_default.not-Lost) told.mended in
-    read_data _ site _ refl _ c.in_doubt-verdict.ensures.verdict _ fits c.in_default.not-Lost _ _ mended
+    read_data _ (site_found c.in-At.ensures) _ refl _ told.verdict c.args.buffer.now (omega arith) c.in_default.not-Lost _ _ mended
     (data_gathered _ (mended_size _ _ _ _ mended) c.data_of.ensures)

@@ -1,26 +1,34 @@
 -- `store::visiting::visit` meets its contract: refused, valid where it lies, or mended. Assumes nothing.
+use Prim.Native.Nat.{ℕ}
 use mathlib.Core.Path.{refl, sym}
 use native.Mathlib.Omega.{arith}
-use Rattle.layout.proofs.Sites.{located, refused, locates_is}
+use Rattle.shape.specs.declared.Shape.{Shape}
+use Rattle.layout.specs.declared.Layout.{Layout}
+use Rattle.layout.specs.declared.Site.TheVariants.{At}
+use Rattle.layout.specs.Site.{Locates}
+use Rattle.layout.proofs.Sites.{Located, located, refused, locates_is}
 use Rattle.store.proofs.Calls.{visit_refused, visit_found, visit_clean}
 use Rattle.store.proofs.Located.{inside, first_small}
 use Rattle.store.proofs.Strides.{clean_there, sums_there}
 use Rattle.store.proofs.visiting.visit.Goals as goal
 
+-- the site that is answered is the block's
+site_found : {len : ℕ} {layout : Layout} {block : ℕ} {shape : Shape} {at : ℕ} → Locates len layout block (At shape at)
+    → Located len layout block shape at
+site_found answered = located _ _ _ _ _ (sym (locates_is _ _ _ answered))
+
 pub overflow_cast-at : goal.overflow_cast-at
-overflow_cast-at c =
-    let site = located _ _ _ _ _ (sym (locates_is _ _ _ c.in-At.ensures)) in
-    omega (arith, first_small _ _ _ site)
+overflow_cast-at c = omega (arith, first_small _ _ _ (site_found c.in-At.ensures))
 
 pub returns-then-look-eq0 : goal.returns-then-look-eq0
 returns-then-look-eq0 c =
-    let site = located _ _ _ _ _ (sym (locates_is _ _ _ c.in-At.ensures)) in
-    visit_clean _ site (clean_there _ _ _ _ (inside _ _ _ site) c.look.ensures c.if-look-eq0.true)
+    let site = site_found c.in-At.ensures in
+    visit_clean _ site (clean_there _ _ _ _ (inside _ _ _ site) c.look.ensures (omega arith))
 
 pub mend_in_place-requires : goal.mend_in_place-requires
 mend_in_place-requires c =
-    let site = located _ _ _ _ _ (sym (locates_is _ _ _ c.in-At.ensures)) in
-    (inside _ _ _ site, sums_there _ _ _ _ (inside _ _ _ site) c.look.ensures c.if-look-eq0.false)
+    let room = inside _ _ _ (site_found c.in-At.ensures) in
+    (room, sums_there _ _ _ _ room c.look.ensures (λ e. omega arith))
 
 pub returns-in-Nowhere : goal.returns-in-Nowhere
 returns-in-Nowhere c =
@@ -29,5 +37,4 @@ returns-in-Nowhere c =
 
 pub returns-else-look-eq0 : goal.returns-else-look-eq0
 returns-else-look-eq0 c =
-    let site = located _ _ _ _ _ (sym (locates_is _ _ _ c.in-At.ensures)) in
-    visit_found _ site _ refl _ c.mend_in_place.ensures.verdict _ c.mend_in_place.ensures.after
+    visit_found _ (site_found c.in-At.ensures) _ refl _ c.mend_in_place.ensures.verdict _ c.mend_in_place.ensures.after

@@ -1,24 +1,29 @@
 -- `store::writing::write` meets its contract, refusal by refusal; past them it is the valid block that is scattered. Assumes nothing.
+use Prim.Native.Nat.{ℕ}
 use mathlib.Core.Path.{◌≡◌, sym}
 use native.Mathlib.Omega.{arith}
 use lib.ListN.{length}
 use Rattle.shape.specs.Shape.{words}
-use Rattle.layout.proofs.Sites.{located, locates_is}
+use Rattle.shape.specs.declared.Shape.{Shape}
+use Rattle.layout.specs.declared.Layout.{Layout}
+use Rattle.layout.specs.declared.Site.TheVariants.{At}
+use Rattle.layout.specs.Site.{Locates}
+use Rattle.layout.proofs.Sites.{Located, located, locates_is}
 use Rattle.store.proofs.Calls.{write_refused, write_stored}
 use Rattle.store.proofs.Located.{inside, data_refused, list_refused}
 use Rattle.store.proofs.writing.write.Goals as goal
 
+-- the site that is answered is the block's
+site_found : {len : ℕ} {layout : Layout} {block : ℕ} {shape : Shape} {at : ℕ} → Locates len layout block (At shape at)
+    → Located len layout block shape at
+site_found answered = located _ _ _ _ _ (sym (locates_is _ _ _ answered))
+
 pub returns-then-list-words : goal.returns-then-list-words
 returns-then-list-words c =
-    let site = located _ _ _ _ _ (sym (locates_is _ _ _ c.in-At.ensures)) in
-    write_refused _ _ _ 7 _
-    (list_refused _ _ _ site _ (λ e. omega (arith, c.if-list-words.true, c.words.ensures)))
-    (λ z. omega arith)
+    write_refused _ _ _ 7 _ (list_refused _ _ _ (site_found c.in-At.ensures) _ (λ e. omega arith)) (λ z. omega arith)
 
 pub scatter-requires : goal.scatter-requires
-scatter-requires c =
-    let site = located _ _ _ _ _ (sym (locates_is _ _ _ c.in-At.ensures)) in
-    inside _ _ _ site
+scatter-requires c = inside _ _ _ (site_found c.in-At.ensures)
 
 pub returns-in-Nowhere : goal.returns-in-Nowhere
 returns-in-Nowhere c =
@@ -28,6 +33,5 @@ returns-in-Nowhere c =
 
 pub returns-else-list-words : goal.returns-else-list-words
 returns-else-list-words c =
-    let site = located _ _ _ _ _ (sym (locates_is _ _ _ c.in-At.ensures)) in
-    let fits : length c.args.list.now ≡ words c.in-At.shape = omega (arith, c.if-list-words.false, c.words.ensures) in
-    write_stored _ site _ _ _ fits c.encode-valid.ensures c.scatter.ensures
+    let fits : length c.args.list.now ≡ words c.in-At.shape = omega arith in
+    write_stored _ (site_found c.in-At.ensures) _ _ _ fits c.encode-valid.ensures c.scatter.ensures
