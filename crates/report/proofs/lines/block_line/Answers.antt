@@ -32,17 +32,17 @@ whole_line {block} verdict fits counts put_block put_verdict ended =
 pub slice_bounds-line-end : goal.slice_bounds-line-end
 slice_bounds-line-end c =
     let whole = whole_line _ c.ranges.block (count_fits _ _ c.well_formed.1.0) c.put_named-after_block.ensures
-        c.put_verdict-end.ensures c.put_text-n.ensures in
+    c.put_verdict-end.ensures c.put_text-n.ensures in
     whole.inside
 
 pub slice_bounds-put_text-end-3 : goal.slice_bounds-put_text-end-3
 slice_bounds-put_text-end-3 c =
     let whole = whole_line _ c.ranges.block (count_fits _ _ c.well_formed.1.0) c.put_named-after_block.ensures
-        c.put_verdict-end.ensures c.put_text-n.ensures in
+    c.put_verdict-end.ensures c.put_text-n.ensures in
     line_count whole
 
 pub returns : goal.returns
 returns c =
     let whole = whole_line _ c.ranges.block (count_fits _ _ c.well_formed.1.0) c.put_named-after_block.ensures
-        c.put_verdict-end.ensures c.put_text-n.ensures in
+    c.put_verdict-end.ensures c.put_text-n.ensures in
     line_written whole _ c.put_text.ensures

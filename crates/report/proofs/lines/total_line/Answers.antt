@@ -34,17 +34,17 @@ whole_line {tally} fits put_clean put_mended put_lost put_bits ended =
 pub slice_bounds-line-end : goal.slice_bounds-line-end
 slice_bounds-line-end c =
     let whole = whole_line (search rules) c.put_named-after_clean.ensures c.put_named-after_mended.ensures c.put_named-after_lost.ensures
-        c.put_named-end.ensures c.put_text-n.ensures in
+    c.put_named-end.ensures c.put_text-n.ensures in
     whole.inside
 
 pub slice_bounds-put_text-end-3 : goal.slice_bounds-put_text-end-3
 slice_bounds-put_text-end-3 c =
     let whole = whole_line (search rules) c.put_named-after_clean.ensures c.put_named-after_mended.ensures c.put_named-after_lost.ensures
-        c.put_named-end.ensures c.put_text-n.ensures in
+    c.put_named-end.ensures c.put_text-n.ensures in
     line_count whole
 
 pub returns : goal.returns
 returns c =
     let whole = whole_line (search rules) c.put_named-after_clean.ensures c.put_named-after_mended.ensures c.put_named-after_lost.ensures
-        c.put_named-end.ensures c.put_text-n.ensures in
+    c.put_named-end.ensures c.put_text-n.ensures in
     line_written whole _ c.put_text.ensures
