@@ -13,6 +13,7 @@ use Rattle.file.proofs.Headers.{header_read}
 use Rattle.file.proofs.Ladder.{framed, frame_stands, frame_passed, header_refused, header_image}
 use Rattle.file.proofs.reading.read_header.Goals as goal
 
+-- shape, interleave and groups tell a layout
 same_layout : {a b c d e f : ℕ} → a ≡ d → b ≡ e → c ≡ f → layout_of a b c ≡ layout_of d e f
 same_layout {a} {b} {c} p q r = rw (p, q, r) refl
 
@@ -27,7 +28,8 @@ body_stands : {layout : Layout} {body : ℕ} (bytes : List ℕ) → frame_refusa
 body_stands bytes passes named checked = frame_passed bytes passes ∙ rw (← named) (sym checked)
 
 pub returns-then-frame-ne0 : goal.returns-then-frame-ne0
-returns-then-frame-ne0 c = header_read _ _ (header_refused _ _ (frame_stands _ _ c.check_frame-frame.ensures c.if-frame-ne0.true) c.if-frame-ne0.true)
+returns-then-frame-ne0 c =
+    header_read _ _ (header_refused _ _ (frame_stands _ _ c.check_frame-frame.ensures (λ e. omega arith)) (λ e. omega arith))
 
 pub bounds-bytes-5 : goal.bounds-bytes-5
 bounds-bytes-5 c = omega (arith, nine_bytes c.args.bytes.now (omega arith))

@@ -10,7 +10,7 @@ use Rattle.file.proofs.FileWrites.{writes_refused, writes_bytes}
 use Rattle.file.proofs.writing.write_file.Goals as goal
 
 pub returns-then-refused-ne0 : goal.returns-then-refused-ne0
-returns-then-refused-ne0 c = writes_refused _ _ _ _ c.check_written-refused.ensures c.if-refused-ne0.true
+returns-then-refused-ne0 c = writes_refused _ _ _ _ c.check_written-refused.ensures (λ e. omega arith)
 
 pub put_header-requires : goal.put_header-requires
 put_header-requires c = small _ _ _ (omega arith)
