@@ -8,7 +8,10 @@ use Rattle.file.proofs.writing.put_words.Given as goal
 
 abbrev pub invariant-loop-k : goal.invariant-loop-k
 invariant-loop-k l =
-    (l.k ≤ length l.image) × (l.bytes ≡ stores l.initial.bytes (λ j. 9 + j) (body_byte l.image) (4 * l.k)) × (length l.bytes ≡ length l.initial.bytes) × (l.k-end ≡ length l.image)
+    (l.k ≤ length l.image)
+    × (l.bytes ≡ stores l.initial.bytes (λ j. 9 + j) (body_byte l.image) (4 * l.k))
+    × (length l.bytes ≡ length l.initial.bytes)
+    × (l.k-end ≡ length l.image)
 
 abbrev pub decreases-loop-k : goal.decreases-loop-k
 decreases-loop-k l = length l.image - l.k
