@@ -212,8 +212,7 @@ module _ (shape : Shape) (named block : List ℕ) where
           itself i hi =
               let f = lane i block in
               let same : (j : ℕ) → j < suc m → f (suc j) ≡ f (suc j) ⊕ bit i 0 =
-              λ j h. sym (ap (λ (b : Bool). f (suc j) ⊕ b) (bit_zero i) ∙ ⊕-zero (f (suc j)))
-              in
+              λ j h. sym (ap (λ (b : Bool). f (suc j) ⊕ b) (bit_zero i) ∙ ⊕-zero (f (suc j))) in
               record {
                 valid = valid_same m f _ same (valid i hi);
                 near =
