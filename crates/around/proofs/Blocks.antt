@@ -139,7 +139,8 @@ module _ (shape : Shape) (named block : List ℕ) where
         (λ p. which p && lane_changes m named (lane i block) p)
         (λ j h.
         ap (λ (b : Bool). which (suc j) && b)
-        (ap (λ (b : Bool). lane i block (suc j) ⊕ b) (lane_around_lem i hi j h) ∙ ⊕-cancel (lane i block (suc j)) (lane_changes m named (lane i block) (suc j)))))
+        (ap (λ (b : Bool). lane i block (suc j) ⊕ b) (lane_around_lem i hi j h)
+        ∙ ⊕-cancel (lane i block (suc j)) (lane_changes m named (lane i block) (suc j)))))
 
     module _ (within : RowsTo (rows shape) named) where
       -- what is left where no lane is lost may have been meant
@@ -210,14 +211,16 @@ module _ (shape : Shape) (named block : List ℕ) where
           itself : (i : ℕ) → i < 32 → MeantLane m named (lane i block) (diff (lane i block) (λ p. bit i 0))
           itself i hi =
               let f = lane i block in
-              let same : (j : ℕ) → j < suc m → f (suc j) ≡ f (suc j) ⊕ bit i 0 = λ j h. sym (ap (λ (b : Bool). f (suc j) ⊕ b) (bit_zero i) ∙ ⊕-zero (f (suc j))) in
+              let same : (j : ℕ) → j < suc m → f (suc j) ≡ f (suc j) ⊕ bit i 0 =
+              λ j h. sym (ap (λ (b : Bool). f (suc j) ⊕ b) (bit_zero i) ∙ ⊕-zero (f (suc j))) in
               record {
                 valid = valid_same m f _ same (valid i hi);
                 near =
                     rw (
                       count_same (suc m) (outside named f (diff f (λ p. bit i 0))) (λ p. false)
                           (λ j h.
-                          ap (λ (b : Bool). not (among? named (suc j)) && b) (⊕-cancel (f (suc j)) (bit i 0) ∙ bit_zero i) ∙ and-false (not (among? named (suc j)))),
+                          ap (λ (b : Bool). not (among? named (suc j)) && b) (⊕-cancel (f (suc j)) (bit i 0) ∙ bit_zero i)
+                          ∙ and-false (not (among? named (suc j)))),
                       count_empty (suc m),
                     )
                     (omega arith);

@@ -146,7 +146,9 @@ lost_lanes_lem : (shape : Shape) (b : List ℕ) (e k : ℕ) → verdict_of shape
 unfolding verdict_of
 lost_lanes_lem shape b e k = by (lanes_lost shape b) _ (kinds_lost shape b)
   where
-    by : (lost changed : ℕ) → lanes_lost_as shape b even + lanes_lost_as shape b beyond ≡ lost → verdict lost (lanes_lost_as shape b) changed ≡ Lost e k → e + k ≡ lost
+    by : (lost changed : ℕ) → lanes_lost_as shape b even + lanes_lost_as shape b beyond ≡ lost
+        → verdict lost (lanes_lost_as shape b) changed ≡ Lost e k
+        → e + k ≡ lost
     by zero zero q says = let z : ◌≡◌ {A = ℕ} 0 1 = cc in absurd (omega arith)
     by zero (suc changed) q says = let z : ◌≡◌ {A = ℕ} 0 1 = cc in absurd (omega arith)
     by (suc lost) changed q says =
@@ -412,4 +414,5 @@ module _ {image : List ℕ} {layout : Layout} {block : ℕ} {shape : Shape} {at 
           mended_so three_flipped third (flip_held looked two two_held c there.0 there.1 told.c).0
           (g ∙ flip_placed looked two second two_held (two_placed first second e f) c there.0 there.1 told.c)
           (λ j h.
-          row_changed two c told.c there.0 j (omega (arith, two_held.0, rows_fit shape)) ∙ ap (λ (w : ℕ). bit_xor w (pick (eqb (suc j) c) told.c)) (two_row j h))
+          row_changed two c told.c there.0 j (omega (arith, two_held.0, rows_fit shape))
+          ∙ ap (λ (w : ℕ). bit_xor w (pick (eqb (suc j) c) told.c)) (two_row j h))

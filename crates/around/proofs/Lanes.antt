@@ -221,7 +221,8 @@ module _ (m : ℕ) where
           → lost_around? spare m named o s && lost_around? spare m named (not o) (bit_xor s (weight m r)) ≡ false
       by false e as-found changed = rw (as-found (omega (arith, h, count_below (suc m) (outside named f g) (outside (r ∷ named) f g) (kept e))))
       by true e as-found changed =
-          rw (changed (omega (arith, h, count_below (suc m) (outside named (diff f (only r)) g) (outside (r ∷ named) f g) (flipped e)))) (and-false (lost_around? spare m named o s))
+          rw (changed (omega (arith, h, count_below (suc m) (outside named (diff f (only r)) g) (outside (r ∷ named) f g) (flipped e))))
+          (and-false (lost_around? spare m named o s))
 
   -- ---- in the words of the definition
 

@@ -61,7 +61,9 @@ pub named_told : (last : ℕ) (list : List ℕ) → length list ≤ 3
     let c = get_or list 2 0 in
     named_of last list ≡ cond (misnamed? last (first_rows (length list) a b c)) (Wrong 14) (Rows a b c)
 unfolding named_of named_refusal
-named_told last list h = rw (le-ltb 3 (length list) h, first_rows_lem list h) (by_test (misnamed? last list) (Rows (get_or list 0 0) (get_or list 1 0) (get_or list 2 0)))
+named_told last list h =
+    rw (le-ltb 3 (length list) h, first_rows_lem list h)
+    (by_test (misnamed? last list) (Rows (get_or list 0 0) (get_or list 1 0) (get_or list 2 0)))
   where
     by_test : (t : Bool) (rows : Named) → if_zero (14 when t else 0) rows (Wrong (14 when t else 0)) ≡ cond t (Wrong 14) rows
     by_test true rows = refl

@@ -137,7 +137,10 @@ module _ (m : ℕ) (small : m < 128) where
   pub one_digit : (r : ℕ) (x : Bool) → RowOrNone m r → (k : ℕ) → k < 8 → digits m (one m r x) k ≡ x && bit k (mark (suc m) r)
   one_digit r x h k l =
       ⊎_elim
-      (λ e. rw (eq-eqb k 7 e) (one_odd m r x h ∙ ap (λ (t : Bool). x && t) (sym (mark_top m small r (none_above m r h)) ∙ ap (λ (j : ℕ). bit j (mark (suc m) r)) (sym e))))
+      (λ e.
+      rw (eq-eqb k 7 e)
+      (one_odd m r x h
+      ∙ ap (λ (t : Bool). x && t) (sym (mark_top m small r (none_above m r h)) ∙ ap (λ (j : ℕ). bit j (mark (suc m) r)) (sym e))))
       (λ b.
       rw (ne_eqb k 7 (λ e. omega arith))
       (ap (bit k) (one_sum m r x h) ∙ pick_bit k x (weight m r) ∙ ap (λ (t : Bool). x && t) (sym (mark_low m small r (none_above m r h) k b))))

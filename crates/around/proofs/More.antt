@@ -164,7 +164,8 @@ module _ (shape : Shape) (block : List ℕ) (long : rows shape ≤ length block)
         count_same (rows shape) (λ p. among? named p && bit i (change p))
         (λ p. among? named p && flips m (before_small shape) a b c (bit i told.a) (bit i told.b) (bit i told.c) p)
         (λ j h. ap (λ (t : Bool). among? named (suc j) && t) (change_bit i (suc j)))
-        ∙ flips_inside m (before_small shape) three (bit i told.a) (bit i told.b) (bit i told.c) (λ e. ap (bit i) (solved.no_third (ap (mark (rows shape)) e)) ∙ bit_zero i))
+        ∙ flips_inside m (before_small shape) three (bit i told.a) (bit i told.b) (bit i told.c)
+        (λ e. ap (bit i) (solved.no_third (ap (mark (rows shape)) e)) ∙ bit_zero i))
         ∙ sym (total_add 32 _ _) ∙ ap₂ (λ (s t : ℕ). s + t) (sym (total_add 32 _ _)) refl
         ∙ sym (ap₂ (λ (s t : ℕ). s + t) (ap₂ (λ (s t : ℕ). s + t) (ones_total 32 told.a fa) (ones_total 32 told.b fb)) (ones_total 32 told.c fc))
 

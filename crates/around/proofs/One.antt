@@ -49,7 +49,9 @@ pub changed_bit : (mk lanes : ℕ) (sums : List ℕ) (i k : ℕ) → k < 8
     → bit i (get_or (changed_by mk lanes sums) k 0) ≡ bit i (get_or sums k 0) ⊕ (bit k mk && bit i lanes)
 unfolding changed_by
 changed_bit mk lanes sums i k h =
-    ap (bit i) (get_or_list_of 8 _ k h) ∙ bit_of_xor i (get_or sums k 0) (pick (bit k mk) lanes) ∙ ap (λ (t : Bool). bit i (get_or sums k 0) ⊕ t) (pick_bit i (bit k mk) lanes)
+    ap (bit i) (get_or_list_of 8 _ k h)
+    ∙ bit_of_xor i (get_or sums k 0) (pick (bit k mk) lanes)
+    ∙ ap (λ (t : Bool). bit i (get_or sums k 0) ⊕ t) (pick_bit i (bit k mk) lanes)
 
 changed_fits : (mk lanes : ℕ) (sums : List ℕ) → lanes < 2 ^ 32 → ((k : ℕ) → k < 8 → get_or sums k 0 < 2 ^ 32)
     → (k : ℕ) → k < 8 → get_or (changed_by mk lanes sums) k 0 < 2 ^ 32
@@ -139,9 +141,13 @@ module _ (shape : Shape) (block : List ℕ) (long : rows shape ≤ length block)
     first_digit : (k : ℕ) → k < 7 → bit i (get_or first k 0) ≡ bit k (bit_xor (sum m f) (pick (odd (suc m) f) (weight m r)))
     first_digit k h =
         changed_bit mk odds sums i k (omega arith)
-        ∙ ap₂ (λ (s t : Bool). s ⊕ (bit k mk && t)) (sums_digit k (omega arith) ∙ ap (λ (t : Bool). cond t (odd (suc m) f) (bit k (sum m f))) (ne_eqb k 7 (λ e. omega arith)))
+        ∙ ap₂ (λ (s t : Bool). s ⊕ (bit k mk && t))
+        (sums_digit k (omega arith) ∙ ap (λ (t : Bool). cond t (odd (suc m) f) (bit k (sum m f))) (ne_eqb k 7 (λ e. omega arith)))
         odds_bit
-        ∙ ap (λ (t : Bool). bit k (sum m f) ⊕ t) (swap (bit k mk) (odd (suc m) f) ∙ ap (λ (t : Bool). odd (suc m) f && t) (mark_low m (before_small shape) r high k h) ∙ sym (pick_bit k (odd (suc m) f) (weight m r)))
+        ∙ ap (λ (t : Bool). bit k (sum m f) ⊕ t)
+        (swap (bit k mk) (odd (suc m) f)
+        ∙ ap (λ (t : Bool). odd (suc m) f && t) (mark_low m (before_small shape) r high k h)
+        ∙ sym (pick_bit k (odd (suc m) f) (weight m r)))
         ∙ sym (bit_of_xor k (sum m f) (pick (odd (suc m) f) (weight m r)))
 
     left_bit : bit i left_in ≡ row.left? (odd (suc m) f) (sum m f) (weight m r)
@@ -176,7 +182,8 @@ module _ (shape : Shape) (block : List ℕ) (long : rows shape ≤ length block)
         changed_bit mk left_in first i k h
         ∙ ap (λ (t : Bool). t ⊕ (bit k mk && bit i left_in)) (changed_bit mk odds sums i k h)
         ∙ ⊕-assoc (bit i (get_or sums k 0)) (bit k mk && bit i odds) (bit k mk && bit i left_in)
-        ∙ ap₂ ◌⊕◌ (sums_digit k h) (both (bit k mk) (bit i odds) (bit i left_in) ∙ ap (λ (t : Bool). t && bit k mk) (sym (bit_of_xor i odds left_in) ∙ wrong_bit))
+        ∙ ap₂ ◌⊕◌ (sums_digit k h)
+        (both (bit k mk) (bit i odds) (bit i left_in) ∙ ap (λ (t : Bool). t && bit k mk) (sym (bit_of_xor i odds left_in) ∙ wrong_bit))
         ∙ sym (change_digit m (before_small shape) f r wrong (inr (low, high)) k h)
         ∙ sym (digits_same m (lane i turned) (row.turned m r low high f) lane_turned k)
       where

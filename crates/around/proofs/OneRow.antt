@@ -80,7 +80,10 @@ module _ (m r : ℕ) (low : 1 ≤ r) (high : r ≤ suc m) where
       by false true e kept = let z : s ≡ 0 = sym (xor_zero_r s) ∙ eqb-true _ _ e in rw (xor_zero_r s) (rw z (unfold decision in refl))
       by false false e kept =
           other (bit_xor s w)
-          (λ q. eqb-false _ _ e (xor_zero_r s ∙ sym (xor_zero_r s) ∙ ap (bit_xor s) (sym (xor_self w)) ∙ sym (xor_assoc s w w) ∙ ap (λ (x : ℕ). bit_xor x w) q ∙ xor_self w))
+          (λ q.
+          eqb-false _ _ e
+          (xor_zero_r s ∙ sym (xor_zero_r s) ∙ ap (bit_xor s) (sym (xor_self w)) ∙ sym (xor_assoc s w w)
+          ∙ ap (λ (x : ℕ). bit_xor x w) q ∙ xor_self w))
           kept
       by true true e kept = let z : bit_xor s w ≡ 0 = eqb-true _ _ e in rw z (unfold decision in refl)
       by true false e kept =

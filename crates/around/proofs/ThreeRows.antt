@@ -65,7 +65,8 @@ module _ (m : ℕ) (small : m < 128) where
     made_valid f x y z made =
         let g = flips a b c x y z in
         let same : (k : ℕ) → k < 8 → digits m f k ≡ digits m g k = λ k h. made k h ∙ sym (flips_made x y z k h) in
-        let bits : (k : ℕ) → k < 7 → bit k (sum m f) ≡ bit k (sum m g) = λ k h. digit_low k h (sum m f) (sum m g) (odd (suc m) f) (odd (suc m) g) (same k (omega arith)) in
+        let bits : (k : ℕ) → k < 7 → bit k (sum m f) ≡ bit k (sum m g) =
+        λ k h. digit_low k h (sum m f) (sum m g) (odd (suc m) f) (odd (suc m) g) (same k (omega arith)) in
         record {
           sum_zero = sum_diff m f g ∙ ap (bit_xor (sum m f)) (sym (bit_ext_below 7 (sum m f) (sum m g) (sum_lt 7 m f small) (sum_lt 7 m g small) bits))
               ∙ xor_self (sum m f);

@@ -140,8 +140,8 @@ module _ (shape : ℕ) (image : List ℕ) where
 
 pub all_hold : map (λ (e : Example). e.gives) examples ≡ map (λ (e : Example). e.must) examples
 unfolding examples data_block stores list_of number total xor_rows any_of above_of flipped_in xor_all with_checks power? rows_where bit fit? shape_numbered
-    complemented complemented_image stored_rows with_rows gathered placed fresh_image image_line block_line total_line end_to_end decimal spelled block_lines tally_below
-    report_of header_of file_refusal frame_refusal body_refusal layout_refusal image_refusal block_refusal data_refusal words_in
+    complemented complemented_image stored_rows with_rows gathered placed fresh_image image_line block_line total_line end_to_end decimal spelled
+    block_lines tally_below report_of header_of file_refusal frame_refusal body_refusal layout_refusal image_refusal block_refusal data_refusal words_in
 all_hold =
     ap₂ ◌∷◌ (wrote (alone 1) _ _ _ refl refl refl)
     (ap₂ ◌∷◌ (wrote (alone 1) _ _ _ refl refl refl)

@@ -108,7 +108,8 @@ module _ (test : ℕ → Bool) where
   row_passes zero k h = absurd (omega arith)
   row_passes (suc n) k h = go (row_passes n k) (test (suc n)) refl h
     where
-      go : (k < length (rows_where test n) → (1 ≤ get_or (rows_where test n) k 0) × (get_or (rows_where test n) k 0 ≤ n) × (test (get_or (rows_where test n) k 0) ≡ true))
+      go : (k < length (rows_where test n)
+          → (1 ≤ get_or (rows_where test n) k 0) × (get_or (rows_where test n) k 0 ≤ n) × (test (get_or (rows_where test n) k 0) ≡ true))
           → (b : Bool) → test (suc n) ≡ b → k < length (rows_where test n ++ cond b (suc n ∷ []) [])
           → (1 ≤ get_or (rows_where test n ++ cond b (suc n ∷ []) []) k 0) × (get_or (rows_where test n ++ cond b (suc n ∷ []) []) k 0 ≤ suc n)
           × (test (get_or (rows_where test n ++ cond b (suc n ∷ []) []) k 0) ≡ true)

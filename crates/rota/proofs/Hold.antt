@@ -178,7 +178,8 @@ module _ {n : ℕ} (M : Memory n) where
       let e = append_assoc done (x ∷ []) rest in
       let sq : Spaced M (done ++ x ∷ [] ++ rest) = rw e sp in
       rw (← e, step_runs n x p s)
-      (held_run rest (done ++ x ∷ []) (plan_step n x p) (λ c. meant c (w c) x) (memory_step M x (rota_of p) m) (step_sound n x p s) (step_good x (rota_of p) m g)
+      (held_run rest (done ++ x ∷ []) (plan_step n x p) (λ c. meant c (w c) x) (memory_step M x (rota_of p) m) (step_sound n x p s)
+      (step_good x (rota_of p) m g)
       (after_step done p w m s g h x (spaced_front (done ++ x ∷ []) rest sq))
       sq)
 
