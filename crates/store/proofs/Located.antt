@@ -1,6 +1,6 @@
 -- What the site of a block tells of its rows, and of the list of data words or the buffer. Assumes nothing.
 use Prim.Native.Nat.{ℕ, ◌^◌, ◌<◌}
-use mathlib.Core.Path.{◌≡◌}
+use mathlib.Core.Path.{◌≡◌, sym}
 use native.Mathlib.Nat.{mul-le-mul_right}
 use native.Mathlib.Omega.{arith}
 use borrow.Author.Tests.{eq-eqb, ne_eqb}
@@ -9,13 +9,18 @@ use Rattle.shape.specs.Shape.{rows, words}
 use Rattle.shape.proofs.Sizes.{rows_fit}
 use Rattle.ground.proofs.Ladder.{then_first}
 use Rattle.layout.specs.declared.Layout.{Layout}
-use Rattle.layout.specs.declared.Site.TheVariants.{Nowhere}
+use Rattle.layout.specs.declared.Site.TheVariants.{At, Nowhere}
 use Rattle.layout.specs.Layout.{shape_of, blocks}
-use Rattle.layout.specs.Site.{site_of}
+use Rattle.layout.specs.Site.{site_of, Locates}
 use Rattle.layout.proofs.Ladder.{accepted}
-use Rattle.layout.proofs.Sites.{Located, refused, rows_inside}
+use Rattle.layout.proofs.Sites.{Located, located, locates_is, refused, rows_inside}
 use Rattle.store.specs.Refusal.{list_rung, data_refusal}
 use Rattle.store.specs.Inner.{Inside}
+
+-- the site that is answered is the block's
+pub site_found : {len : ℕ} {layout : Layout} {block : ℕ} {shape : Shape} {at : ℕ} → Locates len layout block (At shape at)
+    → Located len layout block shape at
+site_found answered = located _ _ _ _ _ (sym (locates_is _ _ _ answered))
 
 module _ (len : ℕ) (layout : Layout) (block : ℕ) where
   -- a refusal stands, whatever the list's length

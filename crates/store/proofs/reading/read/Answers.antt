@@ -1,23 +1,13 @@
 -- `store::reading::read` meets its contract: refused, clean with the data where they lie, lost with the buffer as it was, or mended. Assumes nothing.
-use Prim.Native.Nat.{ℕ}
 use mathlib.Core.Path.{refl, sym}
 use native.Mathlib.Omega.{arith}
 use lib.ListN.{length}
-use Rattle.shape.specs.declared.Shape.{Shape}
-use Rattle.layout.specs.declared.Layout.{Layout}
-use Rattle.layout.specs.declared.Site.TheVariants.{At}
-use Rattle.layout.specs.Site.{Locates}
-use Rattle.layout.proofs.Sites.{Located, located, locates_is}
+use Rattle.layout.proofs.Sites.{locates_is}
 use Rattle.store.proofs.Calls.{read_refused, read_lost, read_data, read_clean}
-use Rattle.store.proofs.Located.{inside, first_small, data_refused, list_refused}
+use Rattle.store.proofs.Located.{inside, first_small, data_refused, list_refused, site_found}
 use Rattle.store.proofs.Strides.{mended_size, mended_whole, clean_there, sums_there, data_there, data_gathered}
 use Rattle.block.proofs.Told.{not_lost}
 use Rattle.store.proofs.reading.read.Goals as goal
-
--- the site that is answered is the block's
-site_found : {len : ℕ} {layout : Layout} {block : ℕ} {shape : Shape} {at : ℕ} → Locates len layout block (At shape at)
-    → Located len layout block shape at
-site_found answered = located _ _ _ _ _ (sym (locates_is _ _ _ answered))
 
 pub returns-then-buffer-words : goal.returns-then-buffer-words
 returns-then-buffer-words c =

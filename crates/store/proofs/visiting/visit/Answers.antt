@@ -1,21 +1,11 @@
 -- `store::visiting::visit` meets its contract: refused, valid where it lies, or mended. Assumes nothing.
-use Prim.Native.Nat.{ℕ}
 use mathlib.Core.Path.{refl, sym}
 use native.Mathlib.Omega.{arith}
-use Rattle.shape.specs.declared.Shape.{Shape}
-use Rattle.layout.specs.declared.Layout.{Layout}
-use Rattle.layout.specs.declared.Site.TheVariants.{At}
-use Rattle.layout.specs.Site.{Locates}
-use Rattle.layout.proofs.Sites.{Located, located, refused, locates_is}
+use Rattle.layout.proofs.Sites.{refused, locates_is}
 use Rattle.store.proofs.Calls.{visit_refused, visit_found, visit_clean}
-use Rattle.store.proofs.Located.{inside, first_small}
+use Rattle.store.proofs.Located.{inside, first_small, site_found}
 use Rattle.store.proofs.Strides.{clean_there, sums_there}
 use Rattle.store.proofs.visiting.visit.Goals as goal
-
--- the site that is answered is the block's
-site_found : {len : ℕ} {layout : Layout} {block : ℕ} {shape : Shape} {at : ℕ} → Locates len layout block (At shape at)
-    → Located len layout block shape at
-site_found answered = located _ _ _ _ _ (sym (locates_is _ _ _ answered))
 
 pub overflow_cast-at : goal.overflow_cast-at
 overflow_cast-at c = omega (arith, first_small _ _ _ (site_found c.in-At.ensures))

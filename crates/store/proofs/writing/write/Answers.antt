@@ -1,22 +1,12 @@
 -- `store::writing::write` meets its contract, refusal by refusal; past them it is the valid block that is scattered. Assumes nothing.
-use Prim.Native.Nat.{ℕ}
 use mathlib.Core.Path.{◌≡◌, sym}
 use native.Mathlib.Omega.{arith}
 use lib.ListN.{length}
 use Rattle.shape.specs.Shape.{words}
-use Rattle.shape.specs.declared.Shape.{Shape}
-use Rattle.layout.specs.declared.Layout.{Layout}
-use Rattle.layout.specs.declared.Site.TheVariants.{At}
-use Rattle.layout.specs.Site.{Locates}
-use Rattle.layout.proofs.Sites.{Located, located, locates_is}
+use Rattle.layout.proofs.Sites.{locates_is}
 use Rattle.store.proofs.Calls.{write_refused, write_stored}
-use Rattle.store.proofs.Located.{inside, data_refused, list_refused}
+use Rattle.store.proofs.Located.{inside, data_refused, list_refused, site_found}
 use Rattle.store.proofs.writing.write.Goals as goal
-
--- the site that is answered is the block's
-site_found : {len : ℕ} {layout : Layout} {block : ℕ} {shape : Shape} {at : ℕ} → Locates len layout block (At shape at)
-    → Located len layout block shape at
-site_found answered = located _ _ _ _ _ (sym (locates_is _ _ _ answered))
 
 pub returns-then-list-words : goal.returns-then-list-words
 returns-then-list-words c =
