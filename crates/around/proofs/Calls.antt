@@ -3,18 +3,18 @@ use Prim.Native.Nat.{ℕ, zero, suc, ◌+◌, ◌*◌, ◌-◌, ◌^◌, ◌≤�
 use mathlib.Core.Bool.{Bool, true, false, ◌||◌}
 use mathlib.Core.Path.{◌≡◌, refl, sym, ap, ◌∙◌}
 use mathlib.Core.List.{List, [], ◌∷◌}
-use mathlib.Core.Logic.{inl, inr, ⊎_elim}
+use mathlib.Core.Logic.{inl, inr}
 use native.Mathlib.Omega.{arith}
 use lib.Bits.{bit_xor, xor_zero_r}
 use lib.Count.{ones}
 use lib.Dec.{eqb, ltb}
 use lib.ListN.{length, get_or, length-set}
-use lib.Pow.{pow_pos}
 use lib.Seq.{get_or-set_other}
 use borrow.Author.Tests.{eqb-false, ltb-false}
-use Rattle.lane.specs.Bit.{bit, pick}
+use Rattle.std.proofs.lemmas.Nat.{zero_from_ones}
+use Rattle.lane.specs.Bit.{pick}
 use Rattle.lane.specs.Decision.{Kind, even, beyond}
-use Rattle.lane.proofs.Bits.{bit_zero, bit_ext_below, xor_assoc}
+use Rattle.lane.proofs.Bits.{xor_assoc}
 use Rattle.ground.proofs.Bools.{neither}
 use Rattle.shape.specs.declared.Shape.{Shape}
 use Rattle.shape.specs.Shape.{before, rows}
@@ -25,14 +25,16 @@ use Rattle.block.specs.declared.Verdict.TheVariants.{Lost}
 use Rattle.block.specs.Block.{SameRows, lanes_lost, lanes_lost_as, mended_block}
 use Rattle.block.specs.Sums.{Decides}
 use Rattle.block.specs.Verdict.{verdict, verdict_of}
-use Rattle.block.proofs.Blocks.{counted_none, length_mended}
-use Rattle.block.proofs.Lanes.{ones_total}
+use Rattle.block.proofs.Blocks.{length_mended}
 use Rattle.block.proofs.Decided.{decided}
 use Rattle.block.proofs.Told.{NotLost, not_lost, lost_some, kinds_lost, few_lost}
 use Rattle.layout.specs.declared.Layout.{Layout}
 use Rattle.layout.specs.Layout.{rows_of, index}
 use Rattle.layout.proofs.Index.{stride}
 use Rattle.layout.proofs.Ladder.{accepted}
+use Rattle.layout.proofs.Sites.{Located, located}
+use Rattle.layout.specs.declared.Site.{Site}
+use Rattle.std.specs.Prelude.{Option, None, Some}
 use Rattle.store.specs.Image.{gathered, placed}
 use Rattle.store.specs.Visit.{visit_after}
 use Rattle.store.proofs.Image.{length_gathered, gathered_rest, length_placed, placed_gathered, placed_elsewhere, gathered_placed}
@@ -41,12 +43,11 @@ use Rattle.around.specs.declared.solving.Told.{Told}
 use Rattle.around.specs.Named.{among?}
 use Rattle.around.specs.Refusal.{misnamed?}
 use Rattle.around.specs.Block.{lanes_lost_around, around_block, bits_inside, bits_outside}
-use Rattle.around.specs.Inner.{more_rows, mark, changed_at, RowInside, Solves, around_by, around_of, Looked, Mends}
+use Rattle.around.specs.Inner.{more_rows, row_or_none, mark, changed_by, changed_at, RowInside, Solves, around_by, around_of, Looked, Mends}
 use Rattle.around.proofs.Lanes.{RowsTo}
 use Rattle.around.proofs.Blocks.{row_changed, around_lost, length_around, unchanged_valid}
 use Rattle.around.proofs.Images.{placed_over, placed_same, there, changed_placed}
-use Rattle.around.proofs.Marks.{RowOrNone}
-use Rattle.around.proofs.ThreeRows.{Three, three_within}
+use Rattle.around.proofs.ThreeRows.{rows_named, Three, three_within}
 use Rattle.around.proofs.More as more
 use Rattle.around.proofs.One as one
 use Rattle.around.proofs.One.{left_lanes, turned_sums, wrong_lanes}
@@ -62,7 +63,13 @@ by_mended named kinds zero zero ne = absurd (ne refl refl)
 by_mended named kinds zero (suc o) ne = refl
 by_mended named kinds (suc i) o ne = refl
 
-module _ {image : List ℕ} {layout : Layout} {block : ℕ} {shape : Shape} {at : ℕ} {sums : List ℕ} (looked : Looked image layout block shape at sums) where
+module _ {image : List ℕ} {layout : Layout} {block : ℕ} {site : Site} {sums : List ℕ} (looked : Looked image layout block site sums) where
+  abbrev shape : Shape
+  shape = site.shape
+
+  here : Located (length image) layout block site
+  here = located _ _ _ looked.there
+
   abbrev code : List ℕ
   code = gathered layout block image
 
@@ -70,23 +77,23 @@ module _ {image : List ℕ} {layout : Layout} {block : ℕ} {shape : Shape} {at 
   long = rw (length_gathered layout block image) (rows_fit shape)
 
   same_rows : rows shape ≡ rows_of layout
-  same_rows = ap rows looked.same_shape
+  same_rows = ap rows here.same_shape
 
   -- ---- where a row lies
 
-  row_index : (r : ℕ) → 1 ≤ r → at + (r - 1) * layout.s ≡ index layout block r
+  row_index : (r : ℕ) → 1 ≤ r → site.at + (r - 1) * site.s ≡ index layout block r
   row_index zero low = absurd (omega arith)
   row_index (suc k) low =
       let e : suc k - 1 ≡ k = omega arith in
-      rw looked.first (ap (λ (j : ℕ). index layout block 1 + j * layout.s) e ∙ sym (stride (rows_of layout) layout.s block k))
+      rw (here.first, here.step) (ap (λ (j : ℕ). index layout block 1 + j * layout.s) e ∙ sym (stride (rows_of layout) layout.s block k))
 
-  pub row_inside : (len r : ℕ) → len ≡ length image → 1 ≤ r → r ≤ rows shape → RowInside len at layout.s r
+  pub row_inside : (len r : ℕ) → len ≡ length image → 1 ≤ r → r ≤ rows shape → RowInside len site.at site.s r
   row_inside len r size low high =
-      let ok = accepted layout (length image) block looked.passed in (
-        ok.geometry.s_last,
+      let ok = accepted layout (length image) block here.passed in (
+        rw here.step ok.geometry.s_last,
         low,
         omega (arith, rows_fit shape),
-        rw (size, row_index r low) (there layout block (length image) looked.passed r low (rw (← same_rows) high)),
+        rw (size, row_index r low) (there layout block (length image) here.passed r low (rw (← same_rows) high)),
       )
 
   -- ---- a row changed
@@ -104,10 +111,10 @@ module _ {image : List ℕ} {layout : Layout} {block : ℕ} {shape : Shape} {at 
   )
 
   flip_placed : (given now : List ℕ) → Held given → now ≡ placed layout block given image → (r : ℕ) → 1 ≤ r → r ≤ rows shape → (w : ℕ)
-      → changed_at now (at + (r - 1) * layout.s) w ≡ placed layout block (changed_at given (r - 1) w) image
+      → changed_at now (site.at + (r - 1) * site.s) w ≡ placed layout block (changed_at given (r - 1) w) image
   flip_placed given now h e r low high w =
       rw (e, row_index r low)
-      (changed_placed layout block (length image) looked.passed r low (rw (← same_rows) high) w given image refl h.0 h.1)
+      (changed_placed layout block (length image) here.passed r low (rw (← same_rows) high) w given image refl h.0 h.1)
 
   -- ---- lost, and mended
 
@@ -156,31 +163,23 @@ lost_lanes_lem shape b e k = by (lanes_lost shape b) _ (kinds_lost shape b)
         let s : lanes_lost_as shape b beyond ≡ k = cc in
         omega arith
 
--- a word with no ones is 0
-ones_none : (w : ℕ) → w < 2 ^ 32 → ones w ≡ 0 → w ≡ 0
-ones_none w small e =
-    bit_ext_below 32 w 0 small (pow_pos 32) (λ i h. counted_none 32 (λ i. bit i w) (sym (ones_total 32 w small) ∙ e) i h ∙ sym (bit_zero i))
-
 -- ---- the rows that are named
-
-either_false : (a b : Bool) → a || b ≡ false → (a ≡ false) × (b ≡ false)
-either_false a b e = neither a b e
 
 -- a row that is named is there, and no other is the same
 pub named_row : (last r : ℕ) (named : List ℕ) → misnamed? last (r ∷ named) ≡ false
     → (1 ≤ r) × (r ≤ last) × (among? named r ≡ false) × (misnamed? last named ≡ false)
 unfolding misnamed?
 named_row last r named e =
-    let p = either_false (eqb r 0 || (ltb last r || among? named r)) (misnamed? last named) e in
-    let q = either_false (eqb r 0) (ltb last r || among? named r) p.0 in
-    let s = either_false (ltb last r) (among? named r) q.1 in
+    let p = neither (eqb r 0 || (ltb last r || among? named r)) (misnamed? last named) e in
+    let q = neither (eqb r 0) (ltb last r || among? named r) p.0 in
+    let s = neither (ltb last r) (among? named r) q.1 in
     (omega (arith, eqb-false r 0 q.0), ltb-false last r s.0, s.1, p.1)
 
 another : (r q : ℕ) (named : List ℕ) → among? (q ∷ named) r ≡ false → (r ≡ q → ⊥) × (among? named r ≡ false)
 unfolding among?
-another r q named e = let p = either_false (eqb r q) (among? named r) e in (eqb-false r q p.0, p.1)
+another r q named e = let p = neither (eqb r q) (among? named r) e in (eqb-false r q p.0, p.1)
 
-pub three_named : (m : ℕ) (small : m < 128) (a b c : ℕ) → misnamed? (suc m) (more_rows a b c) ≡ false → Three m small a b c
+pub three_named : (m : ℕ) (small : m < 128) (a b c : ℕ) → misnamed? (suc m) (rows_named a b c) ≡ false → Three m small a b c
 three_named m small a b zero e =
     let p = named_row (suc m) a (b ∷ []) e in
     let q = named_row (suc m) b [] p.3 in
@@ -208,127 +207,162 @@ three_named m small a b (suc c) e =
 
 -- ---- one row
 
-module _ {image : List ℕ} {layout : Layout} {block : ℕ} {shape : Shape} {at : ℕ} {sums : List ℕ} (looked : Looked image layout block shape at sums)
-    (r : ℕ) (named : misnamed? (rows shape) (r ∷ []) ≡ false) where
+module _ {image : List ℕ} {layout : Layout} {block : ℕ} {site : Site} {sums : List ℕ} (looked : Looked image layout block site sums)
+    (r : ℕ) (named : misnamed? (rows site.shape) (r ∷ []) ≡ false) where
   low : 1 ≤ r
-  low = (named_row (rows shape) r [] named).0
+  low = (named_row (rows site.shape) r [] named).0
 
-  high : r ≤ rows shape
-  high = (named_row (rows shape) r [] named).1
+  high : r ≤ rows site.shape
+  high = (named_row (rows site.shape) r [] named).1
 
   abbrev found : List ℕ
   found = gathered layout block image
 
-  abbrev size : rows shape ≤ length found
+  abbrev size : rows site.shape ≤ length found
   size = long looked
 
   abbrev wrong_in : ℕ
-  wrong_in = wrong_lanes (mark (rows shape) r) sums
+  wrong_in = wrong_lanes (mark (rows site.shape) r) sums
 
   abbrev left_in : ℕ
-  left_in = left_lanes (mark (rows shape) r) sums
+  left_in = left_lanes (mark (rows site.shape) r) sums
 
   abbrev turned : List ℕ
   turned = changed_at found (r - 1) wrong_in
 
-  pub row_there : (1 ≤ r) × (r ≤ rows shape)
+  pub row_there : (1 ≤ r) × (r ≤ rows site.shape)
   row_there = (low, high)
 
   turned_held : Held looked turned
   turned_held = flip_held looked found (code_held looked) r low high wrong_in
 
-  turned_long : rows shape ≤ length turned
-  turned_long = rw turned_held.0 (rows_fit shape)
+  turned_long : rows site.shape ≤ length turned
+  turned_long = rw turned_held.0 (rows_fit site.shape)
 
-  module _ (v : Verdict) (decides : Decides shape (turned_sums (mark (rows shape) r) sums) v) where
-    judged : v ≡ verdict_of shape turned
-    judged = decided shape turned turned_long (one.second_are shape found size r low high looked.are) decides
+  -- what is decided by the sums once the mark is changed twice
+  pub decides_turned : {mk odd outside : ℕ} {first second : List ℕ} (v : Verdict) → mk ≡ mark (rows site.shape) r → odd ≡ get_or sums 7 0
+      → first ≡ changed_by mk odd sums
+      → outside ≡ any_of 7 first
+      → second ≡ changed_by mk outside first
+      → Decides site.shape second v
+      → Decides site.shape (turned_sums (mark (rows site.shape) r) sums) v
+  decides_turned v m o f l s decides = rw (s, l, f, o, m) at decides
 
-    pub one_lost : (e b : ℕ) → v ≡ Lost e b → (e + b ≤ 32) × Mends image layout block shape (r ∷ []) (answers.LostAround (e + b)) image
+  module _ (v : Verdict) (decides : Decides site.shape (turned_sums (mark (rows site.shape) r) sums) v) where
+    judged : v ≡ verdict_of site.shape turned
+    judged = decided site.shape turned turned_long (one.second_are site.shape found size r low high looked.are) decides
+
+    pub one_lost : (e b : ℕ) → v ≡ Lost e b → (e + b ≤ 32) × Mends image layout block site.shape (r ∷ []) (answers.LostAround (e + b)) image
     one_lost e b says =
-        let lost = lost_lanes_lem shape turned e b (sym judged ∙ says) in (
-          omega (arith, lost, few_lost shape turned),
-          lost_mends looked r [] (e + b) (lost ∙ one.lost_turned shape found size r low high looked.are)
-              (λ z. lost_some shape turned v judged e b says (sym lost ∙ z)),
+        let lost = lost_lanes_lem site.shape turned e b (sym judged ∙ says) in (
+          omega (arith, lost, few_lost site.shape turned),
+          lost_mends looked r [] (e + b) (lost ∙ one.lost_turned site.shape found size r low high looked.are)
+              (λ z. lost_some site.shape turned v judged e b says (sym lost ∙ z)),
         )
 
-    module _ (kept : NotLost v) (now : List ℕ) (flipped : now ≡ changed_at image (at + (r - 1) * layout.s) wrong_in) where
-      none : lanes_lost shape turned ≡ 0
-      none = not_lost shape turned v judged kept
+    module _ (kept : NotLost v) (now : List ℕ) (flipped : now ≡ changed_at image (site.at + (r - 1) * site.s) wrong_in) where
+      none : lanes_lost site.shape turned ≡ 0
+      none = not_lost site.shape turned v judged kept
 
-      none_around : lanes_lost_around shape (r ∷ []) found ≡ 0
-      none_around = sym (one.lost_turned shape found size r low high looked.are) ∙ none
+      none_around : lanes_lost_around site.shape (r ∷ []) found ≡ 0
+      none_around = sym (one.lost_turned site.shape found size r low high looked.are) ∙ none
 
       now_placed : now ≡ placed layout block turned image
       now_placed = flipped ∙ flip_placed looked found image (code_held looked) (sym (placed_gathered layout block image)) r low high wrong_in
 
-      within : RowsTo (rows shape) (r ∷ [])
+      within : RowsTo (rows site.shape) (r ∷ [])
       within = (low, high, tt)
 
       -- no sum is left: the row alone was wrong
-      pub one_alone : left_in ≡ 0 → Mends image layout block shape (r ∷ []) (answers.Mended (ones wrong_in) 0) now
-      unfolding ones
+      pub one_alone : left_in ≡ 0 → Mends image layout block site.shape (r ∷ []) (answers.Mended (ones wrong_in) (ones left_in)) now
       one_alone no-left =
-          mended_mends looked (r ∷ []) within none_around (ones wrong_in) 0
-          (sym (one.one_inside shape found size r low high looked.are none))
-          (sym (one.one_outside shape found size r low high looked.are none ∙ ap ones no-left))
+          mended_mends looked (r ∷ []) within none_around (ones wrong_in) (ones left_in)
+          (sym (one.one_inside site.shape found size r low high looked.are none))
+          (sym (one.one_outside site.shape found size r low high looked.are none))
           turned now turned_held.0
           (λ j h.
-          ap (λ (b : List ℕ). get_or b j 0) (sym (one.one_alone shape found size r low high looked.are none no-left))
-          ∙ one.one_rows shape found size r low high looked.are none j h)
+          ap (λ (b : List ℕ). get_or b j 0) (sym (one.one_alone site.shape found size r low high looked.are none no-left))
+          ∙ one.one_rows site.shape found size r low high looked.are none j h)
           now_placed
 
       -- and where one is, a visit mends the others
       pub one_visited : (after : List ℕ) → after ≡ visit_after now layout block
-          → Mends image layout block shape (r ∷ []) (answers.Mended (ones wrong_in) (ones left_in)) after
+          → Mends image layout block site.shape (r ∷ []) (answers.Mended (ones wrong_in) (ones left_in)) after
       one_visited after e =
           mended_mends looked (r ∷ []) within none_around (ones wrong_in) (ones left_in)
-          (sym (one.one_inside shape found size r low high looked.are none))
-          (sym (one.one_outside shape found size r low high looked.are none))
-          (mended_block shape turned) after
-          (length_mended shape turned ∙ turned_held.0)
-          (one.one_rows shape found size r low high looked.are none)
+          (sym (one.one_inside site.shape found size r low high looked.are none))
+          (sym (one.one_outside site.shape found size r low high looked.are none))
+          (mended_block site.shape turned) after
+          (length_mended site.shape turned ∙ turned_held.0)
+          (one.one_rows site.shape found size r low high looked.are none)
           (e ∙ visited)
         where
           held : gathered layout block now ≡ turned
           held =
               rw now_placed
-              (gathered_placed layout block (accepted layout (length image) block looked.passed).geometry.s_first turned image
-              (there layout block (length image) looked.passed) turned_held.0 turned_held.1)
+              (gathered_placed layout block (accepted layout (length image) block (here looked).passed).geometry.s_first turned image
+              (there layout block (length image) (here looked).passed) turned_held.0 turned_held.1)
 
           same_size : length now ≡ length image
           same_size = rw now_placed (length_placed layout block turned image)
 
-          visited : visit_after now layout block ≡ placed layout block (mended_block shape turned) image
+          visited : visit_after now layout block ≡ placed layout block (mended_block site.shape turned) image
           visited =
               unfold visit_after in
-              rw (same_size, looked.passed, held, ← looked.same_shape)
-              (placed_over layout block (mended_block shape turned) now image same_size
+              rw (same_size, (here looked).passed, held, ← (here looked).same_shape)
+              (placed_over layout block (mended_block site.shape turned) now image same_size
               (λ i none. rw now_placed (placed_elsewhere layout block turned image i none)))
 
 -- ---- two or three
 
--- a third row that is not 0 is there
-pub third_row : {m c : ℕ} → (c ≡ 0 → ⊥) → RowOrNone m c → (1 ≤ c) × (c ≤ suc m)
-third_row some h = ⊎_elim (λ z. absurd (some z)) (λ r. r) h
+-- a third row, if there is one, is not 0
+more_named : (last a b : ℕ) (c : Option ℕ) → misnamed? last (more_rows a b c) ≡ false → more_rows a b c ≡ rows_named a b (row_or_none c)
+more_named last a b None e = refl
+more_named last a b (Some zero) e =
+    let third = named_row last 0 [] (named_row last b (0 ∷ []) (named_row last a (b ∷ 0 ∷ []) e).3).3 in
+    absurd (omega (arith, third.0))
+more_named last a b (Some (suc c)) e = refl
 
-module _ {image : List ℕ} {layout : Layout} {block : ℕ} {shape : Shape} {at : ℕ} {sums : List ℕ} (looked : Looked image layout block shape at sums)
-    (a b c : ℕ) (named : misnamed? (rows shape) (more_rows a b c) ≡ false) where
-  pub three : Three (before shape) (before_small shape) a b c
-  three = three_named (before shape) (before_small shape) a b c named
+module _ (shape : Shape) (a b : ℕ) (c : Option ℕ) (named : misnamed? (rows shape) (more_rows a b c) ≡ false) where
+  pub as_named : more_rows a b c ≡ rows_named a b (row_or_none c)
+  as_named = more_named (rows shape) a b c named
 
+  pub three : Three (before shape) (before_small shape) a b (row_or_none c)
+  three = three_named (before shape) (before_small shape) a b (row_or_none c) (rw as_named at named)
+
+  -- a third that is there
+  pub third_there : (r : ℕ) → c ≡ Some r → (1 ≤ r) × (r ≤ rows shape)
+  third_there r e = (last.0, last.1)
+    where
+      here : misnamed? (rows shape) (a ∷ b ∷ r ∷ []) ≡ false
+      here = rw e at named
+
+      last : (1 ≤ r) × (r ≤ rows shape) × (among? [] r ≡ false) × (misnamed? (rows shape) [] ≡ false)
+      last = named_row (rows shape) r [] (named_row (rows shape) b (r ∷ []) (named_row (rows shape) a (b ∷ r ∷ []) here).3).3
+
+module _ {image : List ℕ} {layout : Layout} {block : ℕ} {site : Site} {sums : List ℕ} (looked : Looked image layout block site sums)
+    (a b : ℕ) (third : Option ℕ) (fine : misnamed? (rows site.shape) (more_rows a b third) ≡ false) where
   abbrev seen : List ℕ
   seen = gathered layout block image
 
-  module _ {told : Told} {left : List ℕ} (solved : Solves sums (mark (rows shape) a) (mark (rows shape) b) (mark (rows shape) c) told left) where
+  abbrev c : ℕ
+  c = row_or_none third
+
+  all : Three (before site.shape) (before_small site.shape) a b c
+  all = three site.shape a b third fine
+
+  named_as : more_rows a b third ≡ rows_named a b c
+  named_as = as_named site.shape a b third fine
+
+  module _ {told : Told} {left : List ℕ} (solved : Solves sums (mark (rows site.shape) a) (mark (rows site.shape) b) (mark (rows site.shape) c) told left) where
     pub more_lost : any_of 7 left < 2 ^ 32 → (any_of 7 left ≡ 0 → ⊥)
-        → Mends image layout block shape (more_rows a b c) (answers.LostAround (ones (any_of 7 left))) image
-    more_lost small some = by c (more.lost_count shape seen (long looked) three looked.are solved small)
+        → Mends image layout block site.shape (more_rows a b third) (answers.LostAround (ones (any_of 7 left))) image
+    more_lost small some = rw named_as (by c (more.lost_count site.shape seen (long looked) all looked.are solved small))
       where
-        by : (c : ℕ) → ones (any_of 7 left) ≡ lanes_lost_around shape (more_rows a b c) seen
-            → Mends image layout block shape (more_rows a b c) (answers.LostAround (ones (any_of 7 left))) image
-        by zero e = lost_mends looked a (b ∷ []) (ones (any_of 7 left)) e (λ z. some (ones_none (any_of 7 left) small z))
-        by (suc c) e = lost_mends looked a (b ∷ suc c ∷ []) (ones (any_of 7 left)) e (λ z. some (ones_none (any_of 7 left) small z))
+        by : (c : ℕ) → ones (any_of 7 left) ≡ lanes_lost_around site.shape (rows_named a b c) seen
+            → Mends image layout block site.shape (rows_named a b c) (answers.LostAround (ones (any_of 7 left))) image
+        by zero e = lost_mends looked a (b ∷ []) (ones (any_of 7 left)) e (λ z. some (zero_from_ones (any_of 7 left) z))
+        by (suc c) e = lost_mends looked a (b ∷ suc c ∷ []) (ones (any_of 7 left)) e (λ z. some (zero_from_ones (any_of 7 left) z))
 
     -- ---- where nothing is left
 
@@ -341,40 +375,41 @@ module _ {image : List ℕ} {layout : Layout} {block : ℕ} {shape : Shape} {at 
       three_flipped = changed_at two (c - 1) told.c
 
       first_held : Held looked (changed_at seen (a - 1) told.a)
-      first_held = flip_held looked seen (code_held looked) a three.a_row.0 three.a_row.1 told.a
+      first_held = flip_held looked seen (code_held looked) a all.a_row.0 all.a_row.1 told.a
 
       two_held : Held looked two
-      two_held = flip_held looked (changed_at seen (a - 1) told.a) first_held b three.b_row.0 three.b_row.1 told.b
+      two_held = flip_held looked (changed_at seen (a - 1) told.a) first_held b all.b_row.0 all.b_row.1 told.b
 
-      two_placed : (first second : List ℕ) → first ≡ changed_at image (at + (a - 1) * layout.s) told.a
-          → second ≡ changed_at first (at + (b - 1) * layout.s) told.b
+      two_placed : (first second : List ℕ) → first ≡ changed_at image (site.at + (a - 1) * site.s) told.a
+          → second ≡ changed_at first (site.at + (b - 1) * site.s) told.b
           → second ≡ placed layout block two image
       two_placed first second e f =
           f
           ∙ flip_placed looked (changed_at seen (a - 1) told.a) first first_held
-          (e ∙ flip_placed looked seen image (code_held looked) (sym (placed_gathered layout block image)) a three.a_row.0 three.a_row.1 told.a)
-          b three.b_row.0 three.b_row.1 told.b
+          (e ∙ flip_placed looked seen image (code_held looked) (sym (placed_gathered layout block image)) a all.a_row.0 all.a_row.1 told.a)
+          b all.b_row.0 all.b_row.1 told.b
 
-      two_row : (j : ℕ) → j < rows shape → get_or two j 0 ≡ bit_xor (bit_xor (get_or seen j 0) (pick (eqb (suc j) a) told.a)) (pick (eqb (suc j) b) told.b)
+      two_row : (j : ℕ) → j < rows site.shape → get_or two j 0 ≡ bit_xor (bit_xor (get_or seen j 0) (pick (eqb (suc j) a) told.a)) (pick (eqb (suc j) b) told.b)
       two_row j h =
-          let size = rows_fit shape in
-          row_changed (changed_at seen (a - 1) told.a) b told.b three.b_row.0 j (omega (arith, first_held.0, size))
+          let size = rows_fit site.shape in
+          row_changed (changed_at seen (a - 1) told.a) b told.b all.b_row.0 j (omega (arith, first_held.0, size))
           ∙ ap (λ (w : ℕ). bit_xor w (pick (eqb (suc j) b) told.b))
-          (row_changed seen a told.a three.a_row.0 j (omega (arith, length_gathered layout block image, size)))
+          (row_changed seen a told.a all.a_row.0 j (omega (arith, length_gathered layout block image, size)))
 
-      counted : ones told.a + ones told.b + ones told.c ≡ bits_inside shape (more_rows a b c) seen (around_block shape (more_rows a b c) seen)
-      counted = sym (more.more_inside shape seen (long looked) three looked.are solved none fa fb fc)
+      counted : ones told.a + ones told.b + ones told.c ≡ bits_inside site.shape (rows_named a b c) seen (around_block site.shape (rows_named a b c) seen)
+      counted = sym (more.more_inside site.shape seen (long looked) all looked.are solved none fa fb fc)
 
       -- mended, where the rows given are those changed so
       mended_so : (given after : List ℕ) → length given ≡ 72 → after ≡ placed layout block given image
-          → ((j : ℕ) → j < rows shape → get_or given j 0
+          → ((j : ℕ) → j < rows site.shape → get_or given j 0
           ≡ bit_xor (bit_xor (bit_xor (get_or seen j 0) (pick (eqb (suc j) a) told.a)) (pick (eqb (suc j) b) told.b)) (pick (eqb (suc j) c) told.c))
-          → Mends image layout block shape (more_rows a b c) (answers.Mended (ones told.a + ones told.b + ones told.c) 0) after
+          → Mends image layout block site.shape (more_rows a b third) (answers.Mended (ones told.a + ones told.b + ones told.c) 0) after
       mended_so given after size e row =
-          mended_mends looked (more_rows a b c) (three_within (before shape) (before_small shape) three)
-          (more.more_none shape seen (long looked) three looked.are solved none fa fb fc)
+          rw named_as
+          (mended_mends looked (rows_named a b c) (three_within (before site.shape) (before_small site.shape) all)
+          (more.more_none site.shape seen (long looked) all looked.are solved none fa fb fc)
           (ones told.a + ones told.b + ones told.c) 0 counted
-          (sym (more.more_outside shape seen (long looked) three looked.are solved none fa fb fc))
+          (sym (more.more_outside site.shape seen (long looked) all looked.are solved none fa fb fc))
           given after size
           (λ j h.
           let x = pick (eqb (suc j) a) told.a in
@@ -382,37 +417,36 @@ module _ {image : List ℕ} {layout : Layout} {block : ℕ} {shape : Shape} {at 
           let z = pick (eqb (suc j) c) told.c in
           row j h ∙ ap (λ (w : ℕ). bit_xor w z) (xor_assoc (get_or seen j 0) x y) ∙ xor_assoc (get_or seen j 0) (bit_xor x y) z
           ∙ ap (bit_xor (get_or seen j 0)) (xor_assoc x y z)
-          ∙ more.more_row shape seen (long looked) three looked.are solved none fa fb fc j h)
-          e
+          ∙ more.more_row site.shape seen (long looked) all looked.are solved none fa fb fc j h)
+          e)
 
       -- two rows
-      pub more_two : c ≡ 0 → (first second : List ℕ) → first ≡ changed_at image (at + (a - 1) * layout.s) told.a
-          → second ≡ changed_at first (at + (b - 1) * layout.s) told.b
-          → Mends image layout block shape (more_rows a b c) (answers.Mended (ones told.a + ones told.b) 0) second
-      more_two zero-c first second e f =
-          let no_third : told.c ≡ 0 = solved.no_third (ap (mark (rows shape)) zero-c) in
-          let sum : ones told.a + ones told.b + ones told.c ≡ ones told.a + ones told.b = omega (arith, ap ones no_third, ones_zero) in
-          rw (← sum)
-          (mended_so two second two_held.0 (two_placed first second e f)
+      pub more_two : third ≡ None → (first second : List ℕ) → first ≡ changed_at image (site.at + (a - 1) * site.s) told.a
+          → second ≡ changed_at first (site.at + (b - 1) * site.s) told.b
+          → Mends image layout block site.shape (more_rows a b third) (answers.Mended (ones told.a + ones told.b + ones told.c) 0) second
+      more_two absent first second e f =
+          let no_third : told.c ≡ 0 = solved.no_third (ap (λ (t : Option ℕ). mark (rows site.shape) (row_or_none t)) absent) in
+          mended_so two second two_held.0 (two_placed first second e f)
           (λ j h. two_row j h ∙ sym (ap (λ (w : ℕ). bit_xor (bit_xor (bit_xor (get_or seen j 0) (pick (eqb (suc j) a) told.a)) (pick (eqb (suc j) b) told.b)) w)
-          (ap (pick (eqb (suc j) c)) no_third ∙ pick_none (eqb (suc j) c)) ∙ xor_zero_r _)))
+          (ap (pick (eqb (suc j) c)) no_third ∙ pick_none (eqb (suc j) c)) ∙ xor_zero_r _))
         where
           pick_none : (t : Bool) → pick t 0 ≡ 0
           pick_none true = refl
           pick_none false = refl
 
-          ones_zero : ones 0 ≡ 0
-          ones_zero = unfold ones in refl
-
       -- three
-      pub more_three : (c ≡ 0 → ⊥) → (first second third : List ℕ) → first ≡ changed_at image (at + (a - 1) * layout.s) told.a
-          → second ≡ changed_at first (at + (b - 1) * layout.s) told.b
-          → third ≡ changed_at second (at + (c - 1) * layout.s) told.c
-          → Mends image layout block shape (more_rows a b c) (answers.Mended (ones told.a + ones told.b + ones told.c) 0) third
-      more_three some first second third e f g =
-          let there = third_row some three.c_row in
-          mended_so three_flipped third (flip_held looked two two_held c there.0 there.1 told.c).0
-          (g ∙ flip_placed looked two second two_held (two_placed first second e f) c there.0 there.1 told.c)
+      pub more_three : (r : ℕ) → third ≡ Some r → (first second last : List ℕ) → first ≡ changed_at image (site.at + (a - 1) * site.s) told.a
+          → second ≡ changed_at first (site.at + (b - 1) * site.s) told.b
+          → last ≡ changed_at second (site.at + (r - 1) * site.s) told.c
+          → Mends image layout block site.shape (more_rows a b third) (answers.Mended (ones told.a + ones told.b + ones told.c) 0) last
+      more_three r present first second last e f g =
+          let is : c ≡ r = ap row_or_none present in
+          let there = third_there site.shape a b third fine r present in
+          let low : 1 ≤ c = omega (arith, there.0, is) in
+          let high : c ≤ rows site.shape = omega (arith, there.1, is) in
+          mended_so three_flipped last (flip_held looked two two_held c low high told.c).0
+          (g ∙ ap (λ (k : ℕ). changed_at second (site.at + (k - 1) * site.s) told.c) (sym is)
+          ∙ flip_placed looked two second two_held (two_placed first second e f) c low high told.c)
           (λ j h.
-          row_changed two c told.c there.0 j (omega (arith, two_held.0, rows_fit shape))
+          row_changed two c told.c low j (omega (arith, two_held.0, rows_fit site.shape))
           ∙ ap (λ (w : ℕ). bit_xor w (pick (eqb (suc j) c) told.c)) (two_row j h))

@@ -1,12 +1,11 @@
 -- The digits of the sums with a mark changed, and what is left of them once the marks are taken out. Assumes nothing.
 use Prim.Native.Nat.{ℕ, suc, ◌<◌}
 use mathlib.Core.Bool.{true, false, ◌&&◌}
-use mathlib.Core.Path.{◌≡◌, sym, ◌∙◌}
+use mathlib.Core.Path.{◌≡◌, ◌∙◌}
 use mathlib.Core.List.{List}
 use native.Mathlib.Omega.{arith}
 use lib.Bits.{bit_xor, xor_zero_r}
 use lib.ListN.{length, get_or, set}
-use lib.Seq.{set-get_or}
 use Rattle.lane.specs.Bit.{bit, ◌⊕◌, pick}
 use Rattle.lane.proofs.Bits.{bit_of_xor}
 use Rattle.lane.proofs.Exactly.{pick_bit}
@@ -33,8 +32,8 @@ module _ (mark lanes : ℕ) (sums : List ℕ) where
   pub change_one : (n : ℕ) → bit n mark ≡ true → set (changed_to n) n (bit_xor (get_or (changed_to n) n 0) lanes) ≡ changed_to (suc n)
   change_one n e = rw e at (change_more n)
 
-  pub change_none : (n : ℕ) → bit n mark ≡ false → changed_to n ≡ changed_to (suc n)
-  change_none n e = sym (set-get_or (changed_to n) n 0) ∙ rw (← change_more n, e, xor_zero_r)
+  pub change_none : (n : ℕ) → bit n mark ≡ false → set (changed_to n) n (get_or (changed_to n) n 0) ≡ changed_to (suc n)
+  change_none n e = rw (e, xor_zero_r) at (change_more n)
 
   pub changed_all : length sums ≡ 8 → changed_to 8 ≡ changed_by mark lanes sums
   unfolding changed_by

@@ -9,8 +9,8 @@ pub mod ThreeRows
 pub mod OneRow
 pub mod More
 pub mod One
-pub mod Taken
 pub mod None
 pub mod Answers
 pub mod Calls
+pub mod Taken
 pub mod Promised

@@ -8,6 +8,7 @@ use native.Mathlib.Decide.{ℕ_discrete}
 use native.Mathlib.Omega.{arith}
 use lib.Dec.{eqb, leb, eqb-suc-zero}
 use borrow.Author.Tests.{eq-eqb, ne_eqb, le-leb, lt-leb, leb-true}
+use Rattle.std.proofs.Math.Bool.{or-false, or-true}
 use Rattle.lane.specs.Bit.{bit, ◌⊕◌, pick}
 use Rattle.lane.specs.Lane.{Lane, sum, count, odd, diff}
 use Rattle.lane.proofs.Bits.{bit_zero, bit_one, bit_of_xor}
@@ -22,25 +23,17 @@ use Rattle.around.specs.Inner.{mark}
 
 -- ---- the digits of a mark
 
-or_false : (b : Bool) → b || false ≡ b
-or_false true = refl
-or_false false = refl
-
-or_true : (b : Bool) → b || true ≡ true
-or_true true = refl
-or_true false = refl
-
 -- digit 7 is set, and those below are the number's
 over : (n : ℕ) → n < 128 → (k : ℕ) → k < 8 → bit k (128 + n) ≡ bit k n || eqb k 7
 unfolding number
 over n h k l =
     let low : n ≡ number 7 (λ j. bit j n || eqb j 7) =
     number_bits 7 n (λ j. bit j n || eqb j 7) h
-    (λ j b. sym (ap (λ (t : Bool). bit j n || t) (ne_eqb j 7 (λ e. omega arith)) ∙ or_false (bit j n))) in
+    (λ j b. sym (ap (λ (t : Bool). bit j n || t) (ne_eqb j 7 (λ e. omega arith)) ∙ or-false (bit j n))) in
     ap (bit k) (top low) ∙ bit_number 8 k (λ j. bit j n || eqb j 7) l
   where
     top : n ≡ number 7 (λ j. bit j n || eqb j 7) → 128 + n ≡ number 8 (λ j. bit j n || eqb j 7)
-    top low = rw (or_true (bit 7 n)) (omega arith)
+    top low = rw (or-true (bit 7 n)) (omega arith)
 
 module _ (m : ℕ) (small : m < 128) where
   -- below digit 7 a mark has the digits by which its row counts in the sum
@@ -53,7 +46,7 @@ module _ (m : ℕ) (small : m < 128) where
       (λ ne. rw (ne_eqb (suc r) (suc m) ne, le-leb (suc r) m (omega arith)) (low (suc r) (omega arith))))
     where
       low : (n : ℕ) → n < 128 → bit k (128 + n) ≡ bit k n
-      low n b = over n b k (omega arith) ∙ ap (λ (t : Bool). bit k n || t) (ne_eqb k 7 (λ e. omega arith)) ∙ or_false (bit k n)
+      low n b = over n b k (omega arith) ∙ ap (λ (t : Bool). bit k n || t) (ne_eqb k 7 (λ e. omega arith)) ∙ or-false (bit k n)
 
   -- and digit 7 where there is a row
   pub mark_top : (r : ℕ) → r ≤ suc m → bit 7 (mark (suc m) r) ≡ not (eqb r 0)
@@ -65,7 +58,7 @@ module _ (m : ℕ) (small : m < 128) where
       (λ ne. rw (ne_eqb (suc r) (suc m) ne) (top (suc r) (omega arith))))
     where
       top : (n : ℕ) → n < 128 → bit 7 (128 + n) ≡ true
-      top n b = over n b 7 (omega arith) ∙ or_true (bit 7 n)
+      top n b = over n b 7 (omega arith) ∙ or-true (bit 7 n)
 
   pub weight_small : (r : ℕ) → weight m r < 128
   weight_small r = by (leb r m) refl

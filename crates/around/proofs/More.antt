@@ -12,6 +12,7 @@ use lib.Dec.{eqb}
 use lib.ListN.{length, get_or}
 use lib.Pow.{pow_pos}
 use borrow.Author.Tests.{eq-eqb, ne_eqb, eqb-true}
+use Rattle.std.proofs.Math.Bool.{and_comm}
 use Rattle.lane.specs.Bit.{bit, ◌⊕◌, pick}
 use Rattle.lane.specs.Lane.{diff}
 use Rattle.lane.proofs.Bits.{bit_of_xor, bit_zero}
@@ -31,19 +32,13 @@ use Rattle.around.specs.declared.solving.Told.{Told}
 use Rattle.around.specs.Named.{among?}
 use Rattle.around.specs.Lane.{MeantLane, lane_lost?, lane_around}
 use Rattle.around.specs.Block.{lanes_lost_around, around_block, bits_inside, bits_outside}
-use Rattle.around.specs.Inner.{more_rows, mark, Made, Solves}
+use Rattle.around.specs.Inner.{mark, Made, Solves}
 use Rattle.around.proofs.Lanes.{RowsTo, around_meant, meant_kept}
 use Rattle.around.proofs.Blocks.{meant_same, change_none, change_row, change_inside, change_outside}
 use Rattle.around.proofs.Marks.{digits}
-use Rattle.around.proofs.ThreeRows.{Three, three_within, flips, made_meant, meant_made, flips_inside, flips_outside}
+use Rattle.around.proofs.ThreeRows.{rows_named, Three, three_within, flips, made_meant, meant_made, flips_inside, flips_outside}
 
-pub swap : (x y : Bool) → x && y ≡ y && x
-swap true true = refl
-swap true false = refl
-swap false true = refl
-swap false false = refl
-
-pub three_few : (a b c : ℕ) → length (more_rows a b c) ≤ 3
+pub three_few : (a b c : ℕ) → length (rows_named a b c) ≤ 3
 three_few a b zero = omega arith
 three_few a b (suc c) = omega arith
 
@@ -80,7 +75,7 @@ module _ (shape : Shape) (block : List ℕ) (long : rows shape ≤ length block)
   m = before shape
 
   abbrev named : List ℕ
-  named = more_rows a b c
+  named = rows_named a b c
 
   within : RowsTo (rows shape) named
   within = three_within m (before_small shape) three
@@ -143,7 +138,7 @@ module _ (shape : Shape) (block : List ℕ) (long : rows shape ≤ length block)
         ∙ ap₂ ◌⊕◌ (at (eqb p a) told.a) (bit_of_xor i (pick (eqb p b) told.b) _ ∙ ap₂ ◌⊕◌ (at (eqb p b) told.b) (at (eqb p c) told.c))
       where
         at : (t : Bool) (w : ℕ) → bit i (pick t w) ≡ bit i w && t
-        at t w = pick_bit i t w ∙ swap t (bit i w)
+        at t w = pick_bit i t w ∙ and_comm t (bit i w)
 
     change_meant : (i : ℕ) → i < 32 → MeantLane m named (lane i block) (diff (lane i block) (λ p. bit i (change p)))
     change_meant i hi =

@@ -10,7 +10,6 @@ use Rattle.shape.specs.declared.Shape.{Shape}
 use Rattle.shape.specs.Shape.{rows}
 use Rattle.block.specs.Block.{lanes_lost, lanes_lost_as, mended_lanes, mended_block, bits_changed}
 use Rattle.block.specs.Verdict.{verdict, verdict_of}
-use Rattle.store.specs.declared.Answer.TheVariants.{Found}
 use Rattle.around.specs.Named.{among?}
 use Rattle.around.specs.Lane.{lost_around?, changes_around}
 use Rattle.around.specs.Block.{lanes_lost_around, around_lanes, around_block, bits_inside, bits_outside}
@@ -37,12 +36,12 @@ module _ (shape : Shape) (block : List ℕ) where
   unfolding bits_outside bits_changed among?
   none_outside new = refl
 
-  by_verdict : (lost : ℕ) (kinds : Kind → ℕ) (changed : ℕ) → unnamed (Found (verdict lost kinds changed)) ≡ around_by [] lost kinds 0 changed
+  by_verdict : (lost : ℕ) (kinds : Kind → ℕ) (changed : ℕ) → unnamed (verdict lost kinds changed) ≡ around_by [] lost kinds 0 changed
   by_verdict zero kinds zero = refl
   by_verdict zero kinds (suc changed) = refl
   by_verdict (suc lost) kinds changed = refl
 
-  pub none_says : unnamed (Found (verdict_of shape block)) ≡ around_of shape [] block
+  pub none_says : unnamed (verdict_of shape block) ≡ around_of shape [] block
   unfolding verdict_of around_of
   none_says =
       rw (none_lost, none_block, none_inside (mended_block shape block), none_outside (mended_block shape block))

@@ -13,6 +13,7 @@ use lib.ListN.{length, get_or, length-set}
 use lib.Pow.{pow_pos}
 use lib.Seq.{ext_get_or}
 use borrow.Author.Tests.{ne_eqb}
+use Rattle.std.proofs.Math.Bool.{and_comm}
 use Rattle.lane.specs.Bit.{bit, ◌⊕◌, pick}
 use Rattle.lane.specs.Lane.{Lane, sum, odd, diff}
 use Rattle.lane.specs.Decision.{Decision, decision, decide, lost?, changes}
@@ -40,18 +41,11 @@ use Rattle.around.specs.Inner.{mark, changed_by, changed_at}
 use Rattle.around.proofs.Lanes.{RowsTo, ⊕-assoc}
 use Rattle.around.proofs.Blocks.{row_changed, meant_same, change_row, change_inside, change_outside}
 use Rattle.around.proofs.Marks.{mark_low, weight_small, digits, digits_same, change_digit}
-use Rattle.around.proofs.More.{swap, digit_of}
+use Rattle.around.proofs.Digits.{bit_changed}
+use Rattle.around.proofs.More.{digit_of}
 use Rattle.around.proofs.OneRow as row
 
 -- ---- the sums with a mark changed in some lanes
-
-pub changed_bit : (mk lanes : ℕ) (sums : List ℕ) (i k : ℕ) → k < 8
-    → bit i (get_or (changed_by mk lanes sums) k 0) ≡ bit i (get_or sums k 0) ⊕ (bit k mk && bit i lanes)
-unfolding changed_by
-changed_bit mk lanes sums i k h =
-    ap (bit i) (get_or_list_of 8 _ k h)
-    ∙ bit_of_xor i (get_or sums k 0) (pick (bit k mk) lanes)
-    ∙ ap (λ (t : Bool). bit i (get_or sums k 0) ⊕ t) (pick_bit i (bit k mk) lanes)
 
 changed_fits : (mk lanes : ℕ) (sums : List ℕ) → lanes < 2 ^ 32 → ((k : ℕ) → k < 8 → get_or sums k 0 < 2 ^ 32)
     → (k : ℕ) → k < 8 → get_or (changed_by mk lanes sums) k 0 < 2 ^ 32
@@ -140,12 +134,12 @@ module _ (shape : Shape) (block : List ℕ) (long : rows shape ≤ length block)
 
     first_digit : (k : ℕ) → k < 7 → bit i (get_or first k 0) ≡ bit k (bit_xor (sum m f) (pick (odd (suc m) f) (weight m r)))
     first_digit k h =
-        changed_bit mk odds sums i k (omega arith)
+        bit_changed mk odds sums i k (omega arith)
         ∙ ap₂ (λ (s t : Bool). s ⊕ (bit k mk && t))
         (sums_digit k (omega arith) ∙ ap (λ (t : Bool). cond t (odd (suc m) f) (bit k (sum m f))) (ne_eqb k 7 (λ e. omega arith)))
         odds_bit
         ∙ ap (λ (t : Bool). bit k (sum m f) ⊕ t)
-        (swap (bit k mk) (odd (suc m) f)
+        (and_comm (bit k mk) (odd (suc m) f)
         ∙ ap (λ (t : Bool). odd (suc m) f && t) (mark_low m (before_small shape) r high k h)
         ∙ sym (pick_bit k (odd (suc m) f) (weight m r)))
         ∙ sym (bit_of_xor k (sum m f) (pick (odd (suc m) f) (weight m r)))
@@ -175,12 +169,12 @@ module _ (shape : Shape) (block : List ℕ) (long : rows shape ≤ length block)
         ap (bit i) (row_changed block r wrong_in low j (omega arith))
         ∙ bit_of_xor i (get_or block j 0) (pick (eqb (suc j) r) wrong_in)
         ∙ ap (λ (t : Bool). f (suc j) ⊕ t)
-        (pick_bit i (eqb (suc j) r) wrong_in ∙ swap (eqb (suc j) r) (bit i wrong_in) ∙ ap (λ (t : Bool). t && eqb (suc j) r) wrong_bit)
+        (pick_bit i (eqb (suc j) r) wrong_in ∙ and_comm (eqb (suc j) r) (bit i wrong_in) ∙ ap (λ (t : Bool). t && eqb (suc j) r) wrong_bit)
 
     second_digit : (k : ℕ) → k < 8 → bit i (get_or second k 0) ≡ digits m (lane i turned) k
     second_digit k h =
-        changed_bit mk left_in first i k h
-        ∙ ap (λ (t : Bool). t ⊕ (bit k mk && bit i left_in)) (changed_bit mk odds sums i k h)
+        bit_changed mk left_in first i k h
+        ∙ ap (λ (t : Bool). t ⊕ (bit k mk && bit i left_in)) (bit_changed mk odds sums i k h)
         ∙ ⊕-assoc (bit i (get_or sums k 0)) (bit k mk && bit i odds) (bit k mk && bit i left_in)
         ∙ ap₂ ◌⊕◌ (sums_digit k h)
         (both (bit k mk) (bit i odds) (bit i left_in) ∙ ap (λ (t : Bool). t && bit k mk) (sym (bit_of_xor i odds left_in) ∙ wrong_bit))
@@ -242,7 +236,7 @@ module _ (shape : Shape) (block : List ℕ) (long : rows shape ≤ length block)
     change_bit : (i : ℕ) (hi : i < 32) (p : ℕ) → bit i (change p) ≡ row.change m r low high (lane i block) p
     change_bit i hi p =
         bit_of_xor i (pick (eqb p r) wrong_in) (word (λ i. changes (decide m (lane i turned)) p))
-        ∙ ap₂ ◌⊕◌ (pick_bit i (eqb p r) wrong_in ∙ swap (eqb p r) (bit i wrong_in) ∙ ap (λ (t : Bool). t && eqb p r) (wrong_bit i hi))
+        ∙ ap₂ ◌⊕◌ (pick_bit i (eqb p r) wrong_in ∙ and_comm (eqb p r) (bit i wrong_in) ∙ ap (λ (t : Bool). t && eqb p r) (wrong_bit i hi))
         (bit_number 32 i (λ i. changes (decide m (lane i turned)) p) hi ∙ ap (λ (d : Decision). changes d p) (decided_same i hi))
 
     kept : (i : ℕ) → i < 32 → lost? (decide m (row.turned m r low high (lane i block))) ≡ false

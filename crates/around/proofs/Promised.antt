@@ -1,26 +1,29 @@
 -- What a visit around named rows promises, from what its steps gave: refused, no row named, valid, or mended. Assumes nothing.
-use Prim.Native.Nat.{ℕ, zero, suc, ◌+◌, ◌*◌, ◌≤◌, ◌<◌}
-use mathlib.Core.Bool.{Bool, true, false, not, cond, ◌||◌}
+use Prim.Native.Nat.{ℕ, zero, suc, ◌≤◌}
+use mathlib.Core.Bool.{Bool, true, false, not, ◌||◌}
 use mathlib.Core.Path.{◌≡◌, refl, sym, ap, subst, ◌∙◌}
 use mathlib.Core.List.{List, [], ◌∷◌}
 use native.Mathlib.Omega.{arith}
 use lib.Dec.{eqb, ltb}
-use lib.ListN.{length, get_or}
-use lib.Pow.{pow_pos}
-use borrow.Author.Tests.{ne_eqb, ltb-false}
-use Rattle.lane.specs.Bit.{bit}
+use lib.ListN.{length}
+use borrow.Author.Tests.{ltb-false}
 use Rattle.lane.specs.Lane.{sum, odd}
-use Rattle.lane.proofs.Bits.{bit_zero, bit_ext_below}
-use Rattle.lane.proofs.Exactly.{sum_lt}
-use Rattle.ground.specs.Choice.{if_zero}
 use Rattle.ground.specs.Ladder.{◌when◌else◌, ◌then◌}
 use Rattle.ground.proofs.Choices.{refused_kept}
 use Rattle.ground.proofs.Ladder.{then_first}
+use Rattle.std.specs.Prelude.{Result, Ok, Err}
+use Rattle.refusal.specs.declared.Refusal.{Refusal}
+use Rattle.refusal.specs.Refusal.{number as number_of, answered}
+use Rattle.refusal.proofs.Answered.{number_some, rung_known, then_known}
 use Rattle.shape.specs.declared.Shape.{Shape}
 use Rattle.shape.specs.Shape.{before, rows}
-use Rattle.shape.proofs.Sizes.{rows_fit, before_small}
+use Rattle.shape.proofs.Sizes.{rows_fit}
 use Rattle.sums.specs.Words.{lane, number}
 use Rattle.sums.specs.Sums.{sums_of, doubtful, lying, Looks}
+use Rattle.sums.specs.declared.Finding.{Finding}
+use Rattle.sums.specs.declared.Finding.TheVariants.{Clean as NoDoubt}
+use Rattle.sums.specs.Inner.{any_of}
+use Rattle.sums.proofs.Doubt.{else_found, some_doubt}
 use Rattle.sums.proofs.WordBits.{number_same}
 use Rattle.stored.specs.Stored.{complemented}
 use Rattle.block.specs.declared.Verdict.{Verdict}
@@ -32,52 +35,32 @@ use Rattle.block.proofs.Told.{not_lost, not_mended}
 use Rattle.layout.specs.declared.Layout.{Layout}
 use Rattle.layout.specs.Layout.{shape_of, rows_of}
 use Rattle.layout.specs.Refusal.{block_refusal}
-use Rattle.layout.proofs.Sites.{Located}
-use Rattle.store.specs.declared.Answer.{Answer}
-use Rattle.store.specs.declared.Answer.TheVariants.{Found}
-use Rattle.store.specs.Answer.{answered}
+use Rattle.layout.specs.declared.Site.{Site}
+use Rattle.layout.proofs.Sites.{Located, locates_ok}
+use Rattle.layout.proofs.Ladder.{block_known}
+use Rattle.store.specs.Answer.{Answer, verdict_in}
 use Rattle.store.specs.Image.{gathered, placed}
 use Rattle.store.specs.Inner.{taken}
 use Rattle.store.specs.Visit.{visit_answer, visit_after, Visits}
 use Rattle.store.proofs.Image.{length_gathered, placed_gathered, gathered_stride}
 use Rattle.store.proofs.Located.{inside}
+use Rattle.store.proofs.Answers.{refused_answer}
 use Rattle.store.proofs.Promises.{visits_answer}
 use Rattle.store.proofs.Strides.{read_long, clean_there, sums_there}
 use Rattle.around.specs.declared.Around.{Around}
-use Rattle.around.specs.declared.Around.TheVariants.{Refused, Clean}
-use Rattle.around.specs.declared.naming.Named.TheVariants.{Wrong, Rows}
+use Rattle.around.specs.declared.Around.TheVariants.{Clean}
 use Rattle.around.specs.Refusal.{misnamed?, named_refusal, around_refusal}
 use Rattle.around.specs.Block.{around_block}
-use Rattle.around.specs.Inner.{named_of, more_rows, unnamed, around_of, Looked, Mends}
+use Rattle.around.specs.Inner.{unnamed, around_of, Looked, Mends}
 use Rattle.around.specs.Visit.{around_after, VisitsAround}
 use Rattle.around.proofs.Lanes.{RowsTo}
 use Rattle.around.proofs.Blocks.{length_around, valid_kept, valid_inside, valid_outside, valid_row}
 use Rattle.around.proofs.Images.{placed_same}
-use Rattle.around.proofs.Marks.{digits}
-use Rattle.around.proofs.More.{digit_of}
 use Rattle.around.proofs.None.{none_block, none_says}
-use Rattle.around.proofs.Answers.{answers_around}
+use Rattle.around.proofs.Answers.{around_one, answers_around}
 use Rattle.around.proofs.Calls.{named_row}
 
 -- ---- the list
-
-named_parts : (last : ℕ) (list : List ℕ) {a b c : ℕ} → Rows a b c ≡ named_of last list
-    → (named_refusal last list ≡ 0) × (a ≡ get_or list 0 0) × (b ≡ get_or list 1 0) × (c ≡ get_or list 2 0)
-unfolding named_of
-named_parts last list {a} {b} {c} e = by (named_refusal last list) e
-  where
-    by : (n : ℕ) → Rows a b c ≡ if_zero n (Rows (get_or list 0 0) (get_or list 1 0) (get_or list 2 0)) (Wrong n)
-        → (n ≡ 0) × (a ≡ get_or list 0 0) × (b ≡ get_or list 1 0) × (c ≡ get_or list 2 0)
-    by zero q = (refl, cc, cc, cc)
-    by (suc n) q = let z : ◌≡◌ {A = ℕ} 0 1 = cc in absurd (omega arith)
-
-pub named_wrong : (last : ℕ) (list : List ℕ) {number : ℕ} → Wrong number ≡ named_of last list → (named_refusal last list ≡ number) × (number ≡ 0 → ⊥)
-unfolding named_of
-named_wrong last list {number} e = by (named_refusal last list) e
-  where
-    by : (n : ℕ) → Wrong number ≡ if_zero n (Rows (get_or list 0 0) (get_or list 1 0) (get_or list 2 0)) (Wrong n) → (n ≡ number) × (number ≡ 0 → ⊥)
-    by zero q = let z : ◌≡◌ {A = ℕ} 0 1 = cc in absurd (omega arith)
-    by (suc n) q = let p : number ≡ suc n = cc in (sym p, λ z. omega arith)
 
 list_fine : (last : ℕ) (list : List ℕ) → named_refusal last list ≡ 0 → (length list ≤ 3) × (misnamed? last list ≡ false)
 unfolding named_refusal
@@ -92,46 +75,6 @@ rows_within : (last : ℕ) (list : List ℕ) → misnamed? last list ≡ false �
 rows_within last [] e = tt
 rows_within last (r ∷ named) e = let p = named_row last r named e in (p.0, p.1, rows_within last named p.3)
 
-one_named : (last : ℕ) (list : List ℕ) → (length list ≡ 0 → ⊥) → get_or list 1 0 ≡ 0 → misnamed? last list ≡ false → list ≡ get_or list 0 0 ∷ []
-one_named last [] some z e = absurd (some refl)
-one_named last (a ∷ []) some z e = refl
-one_named last (a ∷ b ∷ list) some z e =
-    let q = named_row last b list (named_row last a (b ∷ list) e).3 in
-    let none : b ≡ 0 = z in
-    absurd (omega (arith, q.0))
-
-more_named : (last : ℕ) (list : List ℕ) → length list ≤ 3 → (get_or list 1 0 ≡ 0 → ⊥) → misnamed? last list ≡ false
-    → list ≡ more_rows (get_or list 0 0) (get_or list 1 0) (get_or list 2 0)
-more_named last [] few some e = absurd (some refl)
-more_named last (a ∷ []) few some e = absurd (some refl)
-more_named last (a ∷ b ∷ []) few some e = refl
-more_named last (a ∷ b ∷ zero ∷ list) few some e =
-    let q = named_row last 0 list (named_row last b (0 ∷ list) (named_row last a (b ∷ 0 ∷ list) e).3).3 in
-    absurd (omega (arith, q.0))
-more_named last (a ∷ b ∷ suc c ∷ []) few some e = refl
-more_named last (a ∷ b ∷ suc c ∷ d ∷ list) few some e = absurd (omega arith)
-
-module _ (last : ℕ) (list : List ℕ) {a b c : ℕ} (told : Rows a b c ≡ named_of last list) where
-  pub rows_fine : (named_refusal last list ≡ 0) × (length list ≤ 3) × RowsTo last list
-  rows_fine =
-      let p = named_parts last list told in
-      let f = list_fine last list p.0 in
-      (p.0, f.0, rows_within last list f.1)
-
-  pub one_list : (length list ≡ 0 → ⊥) → b ≡ 0 → (list ≡ a ∷ []) × (misnamed? last (a ∷ []) ≡ false)
-  one_list some none =
-      let p = named_parts last list told in
-      let f = list_fine last list p.0 in
-      let e : list ≡ a ∷ [] = one_named last list some (sym p.2 ∙ none) f.1 ∙ ap (λ (r : ℕ). r ∷ []) (sym p.1) in
-      (e, sym (ap (misnamed? last) e) ∙ f.1)
-
-  pub more_list : (b ≡ 0 → ⊥) → (list ≡ more_rows a b c) × (misnamed? last (more_rows a b c) ≡ false)
-  more_list some =
-      let p = named_parts last list told in
-      let f = list_fine last list p.0 in
-      let e : list ≡ more_rows a b c = rw (p.1, p.2, p.3) (more_named last list f.0 (λ z. some (p.2 ∙ z)) f.1) in
-      (e, sym (ap (misnamed? last) e) ∙ f.1)
-
 -- ---- the promise
 
 module _ (image : List ℕ) (layout : Layout) (block : ℕ) where
@@ -145,71 +88,31 @@ module _ (image : List ℕ) (layout : Layout) (block : ℕ) where
     abbrev refusal : ℕ
     refusal = around_refusal (length image) layout block named
 
+    known : refusal ≤ 14
+    unfolding around_refusal named_refusal
+    known =
+        then_known (block_refusal (length image) layout block) _ (block_known layout (length image) block)
+        (rung_known 13 (ltb 3 (length named)) _ (omega arith) (rung_known 14 (misnamed? (rows_of layout) named) 0 (omega arith) (omega arith)))
+
     -- the answer and the image of the definitions keep it
-    promised : (answer : Around) (after : List ℕ) → answer ≡ if_zero refusal (around_of shape named code) (Refused refusal)
+    promised : (answer : Result Around Refusal) (after : List ℕ) → answer ≡ answered refusal (around_of shape named code)
         → after ≡ around_after image layout block named
         → VisitsAround image layout block named answer after named
-    promised answer after e f = record { answers = rw e (answers_around shape named code refusal); leaves = f; keeps = refl }
+    promised answer after e f = record { answers = rw e (answers_around shape named code refusal known); leaves = f; keeps = refl }
 
-    refused_promised : (number : ℕ) → refusal ≡ number → (number ≡ 0 → ⊥) → VisitsAround image layout block named (Refused number) image named
+    -- and what keeps it is that answer
+    pub visits_around_answer : {answer : Result Around Refusal} {after kept : List ℕ} → VisitsAround image layout block named answer after kept
+        → answer ≡ answered refusal (around_of shape named code)
+    visits_around_answer {answer = answer} kept = around_one answer _ kept.answers (answers_around shape named code refusal known)
+
+    refused_promised : (r : Refusal) → refusal ≡ number_of r → VisitsAround image layout block named (Err r) image named
     unfolding around_after
-    refused_promised number e ne =
-        promised (Refused number) image (rw e (sym (refused_kept number (around_of shape named code) (Refused number) ne)))
-        (rw e (sym (refused_kept number _ image ne)))
+    refused_promised r e =
+        promised (Err r) image (rw e (refused_answer r (around_of shape named code))) (rw e (sym (refused_kept (number_of r) _ image (number_some r))))
 
-    pub site_refused : (number : ℕ) → block_refusal (length image) layout block ≡ number → (number ≡ 0 → ⊥)
-        → VisitsAround image layout block named (Refused number) image named
+    pub site_refused : (r : Refusal) → block_refusal (length image) layout block ≡ number_of r → VisitsAround image layout block named (Err r) image named
     unfolding around_refusal
-    site_refused number e ne = refused_promised number (rw e (then_first number (named_refusal (rows_of layout) named) ne)) ne
-
-    module _ (passed : block_refusal (length image) layout block ≡ 0) where
-      pub list_refused : (number : ℕ) → named_refusal (rows_of layout) named ≡ number → (number ≡ 0 → ⊥)
-          → VisitsAround image layout block named (Refused number) image named
-      unfolding around_refusal
-      list_refused number e ne = refused_promised number (rw (passed, e)) ne
-
-      module _ (fine : named_refusal (rows_of layout) named ≡ 0) where
-        none_refused : refusal ≡ 0
-        unfolding around_refusal
-        none_refused = rw (passed, fine)
-
-        mends_promised : (answer : Around) (after : List ℕ) → Mends image layout block shape named answer after
-            → VisitsAround image layout block named answer after named
-        unfolding around_after
-        mends_promised answer after m = promised answer after (rw none_refused m.says) (rw none_refused m.leaves)
-
-        -- of the shape that the code found, and the rows that it took from the list
-        pub mends_there : {found : Shape} {taken_rows : List ℕ} {answer : Around} {after : List ℕ} → found ≡ shape → named ≡ taken_rows
-            → Mends image layout block found taken_rows answer after
-            → VisitsAround image layout block named answer after named
-        mends_there {taken_rows = taken_rows} {answer = answer} {after = after} same are m =
-            mends_promised answer after
-            (subst (λ (l : List ℕ). Mends image layout block shape l answer after) (sym are)
-            (subst (λ (s : Shape). Mends image layout block s taken_rows answer after) same m))
-
-        -- a valid block is clean, and stays
-        module _ (valid : ValidBlock shape code) (few : length named ≤ 3) (within : RowsTo (rows shape) named) where
-          long : rows shape ≤ length code
-          long = rw (length_gathered layout block image) (rows_fit shape)
-
-          valid_says : Clean ≡ around_of shape named code
-          unfolding around_of
-          valid_says =
-              rw (
-                valid_kept shape named code long within few valid,
-                valid_inside shape named code long within few valid,
-                valid_outside shape named code long within few valid,
-              )
-
-          valid_leaves : image ≡ placed layout block (around_block shape named code) image
-          valid_leaves =
-              sym (placed_gathered layout block image)
-              ∙ placed_same layout block code (around_block shape named code) image (length_gathered layout block image)
-              (length_around shape named code ∙ length_gathered layout block image)
-              (valid_row shape named code long within few valid)
-
-          pub clean_promised : VisitsAround image layout block named Clean image named
-          clean_promised = mends_promised Clean image (record { says = valid_says; leaves = valid_leaves })
+    site_refused r e = refused_promised r (rw e (then_first (number_of r) (named_refusal (rows_of layout) named) (number_some r)))
 
   -- ---- no row is named
 
@@ -221,87 +124,136 @@ module _ (image : List ℕ) (layout : Layout) (block : ℕ) where
       then_none zero = refl
       then_none (suc n) = refl
 
-  module _ {answer : Answer} {after : List ℕ} (visited : Visits image layout block answer after) where
-    none_said : unnamed answer
-        ≡ if_zero (around_refusal (length image) layout block []) (around_of shape [] code) (Refused (around_refusal (length image) layout block []))
-    unfolding visit_answer
-    none_said =
-        rw none_refusal
-        (ap unnamed (visits_answer image layout block visited)
-        ∙ by (block_refusal (length image) layout block) (verdict_of shape code)
-        ∙ ap (λ (a : Around). if_zero (block_refusal (length image) layout block) a (Refused (block_refusal (length image) layout block)))
-        (none_says shape code))
-      where
-        by : (n : ℕ) (v : Verdict) → unnamed (answered n (Found v)) ≡ if_zero n (unnamed (Found v)) (Refused n)
-        by zero v = refl
-        by (suc n) v = refl
-
-    none_left : after ≡ around_after image layout block []
+  module _ {after : List ℕ} where
+    none_left : {answer : Answer} → Visits image layout block answer after → after ≡ around_after image layout block []
     unfolding around_after visit_after
-    none_left = rw (none_refusal, none_block shape code) visited.leaves
+    none_left visited = rw (none_refusal, none_block shape code) visited.leaves
 
-    pub none_visited : VisitsAround image layout block [] (unnamed answer) after []
-    none_visited = promised [] (unnamed answer) after none_said none_left
+    pub visit_refused : {r : Refusal} → Visits image layout block (Err r) after → VisitsAround image layout block [] (Err r) after []
+    visit_refused {r} visited =
+        promised [] (Err r) after
+        (refused_answer r (around_of shape [] code) ∙ ap (λ (n : ℕ). answered n (around_of shape [] code)) (visited.answers.number ∙ sym none_refusal))
+        (none_left visited)
 
--- no words are no row
-pub no_list : (list : List ℕ) → length list ≡ 0 → list ≡ []
-no_list [] e = refl
-no_list (r ∷ list) e = absurd (omega arith)
+    pub none_visited : {v : Verdict} → Visits image layout block (Ok v) after → VisitsAround image layout block [] (Ok (unnamed v)) after []
+    unfolding visit_answer
+    none_visited {v} visited =
+        promised [] (Ok (unnamed v)) after
+        (rw (none_refusal, ← none_says shape code) (by (block_refusal (length image) layout block) (visits_answer image layout block visited)))
+        (none_left visited)
+      where
+        by : (n : ℕ) → Ok v ≡ answered n (verdict_of shape code) → Ok (unnamed v) ≡ answered n (unnamed (verdict_of shape code))
+        by zero e = ap (λ (a : Answer). Ok (unnamed (verdict_in a))) e
+        by (suc n) e = absurd (let no : ⊥ = cc in no)
 
 -- ---- a block that was looked at
 
+none_doubtful : (shape : Shape) (block : List ℕ) → ValidBlock shape block → doubtful shape block ≡ 0
+unfolding doubtful number
+none_doubtful shape block valid =
+    number_same 32 (λ i. not (eqb (sum (before shape) (lane i block)) 0) || odd (rows shape) (lane i block)) (λ i. false)
+    (λ i hi. rw ((valid i hi).sum_zero, (valid i hi).even))
+
 -- a block with the sums of a valid one has no doubtful lane
 no_doubt : (shape : Shape) (a b : List ℕ) → sums_of shape a ≡ sums_of shape b → ValidBlock shape b → doubtful shape a ≡ 0
-unfolding doubtful number
-no_doubt shape a b e valid =
-    number_same 32 (λ i. not (eqb (sum (before shape) (lane i a)) 0) || odd (rows shape) (lane i a)) (λ i. false)
-    (λ i hi. rw (no_sum i hi, no_odd i hi))
-  where
-    digit : (i : ℕ) → i < 32 → (k : ℕ) → k < 8 → digits (before shape) (lane i a) k ≡ false
-    digit i hi k h =
-        sym (digit_of shape a i hi k h) ∙ ap (λ (l : List ℕ). bit i (get_or l k 0)) e ∙ digit_of shape b i hi k h ∙ by (eqb k 7)
+no_doubt shape a b e valid = sym (some_doubt shape a) ∙ ap (any_of 8) e ∙ some_doubt shape b ∙ none_doubtful shape b valid
+
+module _ (image : List ℕ) {layout : Layout} {block : ℕ} {site : Site} (there : Located (length image) layout block site) where
+  abbrev held : List ℕ
+  held = taken site.shape image site.at site.s
+
+  abbrev found_code : List ℕ
+  found_code = gathered layout block image
+
+  whole : held ≡ found_code
+  whole = rw (there.first, there.same_shape, there.step) (gathered_stride layout block image)
+
+  module _ {lent after : List ℕ} {found : Finding} (looks : Looks site.shape image site.at site.s lent found after) where
+    valid_there : found ≡ NoDoubt → ValidBlock site.shape found_code
+    valid_there none =
+        let clean : verdicts.Clean ≡ verdict_of site.shape held = clean_there image site.shape site.at site.s (inside _ _ _ there) (rw none at looks) in
+        let unlost = not_lost site.shape held verdicts.Clean clean (λ e b w. cc) in
+        let long = read_long image site.shape site.at site.s in
+        let kept = not_mended site.shape held verdicts.Clean clean long (λ n w. cc) in
+        subst (ValidBlock site.shape) whole (subst (ValidBlock site.shape) kept (kept_valid site.shape held long unlost))
+
+    pub looked_at : (found ≡ NoDoubt → ⊥) → Looked image layout block site after
+    looked_at some =
+        record {
+          there = locates_ok _ _ _ there;
+          are = are;
+          doubt = λ valid. doubted.0 (no_doubt site.shape (complemented (lying site.shape image site.at site.s)) found_code (sym doubted.1 ∙ are) valid);
+        }
       where
-        by : (t : Bool) → cond t (odd (rows shape) (lane i b)) (bit k (sum (before shape) (lane i b))) ≡ false
-        by true = (valid i hi).even
-        by false = ap (bit k) (valid i hi).sum_zero ∙ bit_zero k
+        doubted : (doubtful site.shape (complemented (lying site.shape image site.at site.s)) ≡ 0 → ⊥)
+            × (after ≡ sums_of site.shape (complemented (lying site.shape image site.at site.s)))
+        doubted = else_found site.shape image site.at site.s ((inside _ _ _ there).1 (before site.shape) (omega arith)) looks some
 
-    no_odd : (i : ℕ) → i < 32 → odd (rows shape) (lane i a) ≡ false
-    no_odd i hi = digit i hi 7 (omega arith)
+        are : after ≡ sums_of site.shape found_code
+        are = sums_there image site.shape site.at site.s (inside _ _ _ there) looks some ∙ ap (sums_of site.shape) whole
 
-    no_sum : (i : ℕ) → i < 32 → sum (before shape) (lane i a) ≡ 0
-    no_sum i hi =
-        bit_ext_below 7 (sum (before shape) (lane i a)) 0 (sum_lt 7 (before shape) (lane i a) (before_small shape)) (pow_pos 7)
-        (λ k l. rw (ne_eqb k 7 (λ q. omega arith)) at (digit i hi k (omega arith)) ∙ sym (bit_zero k))
+  -- ---- rows are named, and tested by the last row that the code knows
 
-module _ (image : List ℕ) {layout : Layout} {block : ℕ} {shape : Shape} {at : ℕ} (site : Located (length image) layout block shape at)
-    {lent after : List ℕ} {found : ℕ} (looks : Looks shape image at layout.s lent found after) where
-  whole : taken shape image at layout.s ≡ gathered layout block image
-  whole = rw (site.first, site.same_shape) (gathered_stride layout block image)
+  module _ (named : List ℕ) {last : ℕ} (is : last ≡ rows site.shape) where
+    pub list_refused : {r : Refusal} → number_of r ≡ named_refusal last named → VisitsAround image layout block named (Err r) image named
+    unfolding around_refusal
+    list_refused {r} e =
+        refused_promised image layout block named r
+        (rw there.passed (sym (e ∙ ap (λ (n : ℕ). named_refusal n named) (is ∙ ap rows there.same_shape))))
 
-  pub valid_there : found ≡ 0 → ValidBlock (shape_of layout) (gathered layout block image)
-  valid_there none =
-      let block_there = taken shape image at layout.s in
-      let clean : verdicts.Clean ≡ verdict_of shape block_there = clean_there image shape at layout.s (inside _ _ _ site) looks none in
-      let unlost = not_lost shape block_there verdicts.Clean clean (λ e b w. cc) in
-      let kept = not_mended shape block_there verdicts.Clean clean (read_long image shape at layout.s) (λ n w. cc) in
-      subst (λ (s : Shape). ValidBlock s (gathered layout block image)) site.same_shape
-      (subst (ValidBlock shape) whole (subst (ValidBlock shape) kept (kept_valid shape block_there (read_long image shape at layout.s) unlost)))
+    module _ (accepted : 0 ≡ named_refusal last named) where
+      passes : named_refusal (rows site.shape) named ≡ 0
+      passes = sym (accepted ∙ ap (λ (n : ℕ). named_refusal n named) is)
 
-  pub looked_at : (found ≡ 0 → ⊥) → Looked image layout block shape at after
-  looked_at some =
-      record {
-        passed = site.passed;
-        same_shape = site.same_shape;
-        first = site.first;
-        are = are;
-        doubt = λ valid. some ((looks.there room).0 ∙ no_doubt shape (complemented (lying shape image at layout.s)) (gathered layout block image) same valid);
-      }
-    where
-      room : at + before shape * layout.s < length image
-      room = (inside _ _ _ site).1 (before shape) (omega arith)
+      fine : (length named ≤ 3) × (misnamed? (rows site.shape) named ≡ false)
+      fine = list_fine (rows site.shape) named passes
 
-      are : after ≡ sums_of shape (gathered layout block image)
-      are = sums_there image shape at layout.s (inside _ _ _ site) looks some ∙ ap (sums_of shape) whole
+      pub few : length named ≤ 3
+      few = fine.0
 
-      same : sums_of shape (complemented (lying shape image at layout.s)) ≡ sums_of shape (gathered layout block image)
-      same = sym ((looks.there room).1 ∙ refused_kept found lent (sums_of shape (complemented (lying shape image at layout.s))) some) ∙ are
+      -- the rows that the code takes from the list
+      pub taken_fine : {rows_taken : List ℕ} → named ≡ rows_taken → misnamed? (rows site.shape) rows_taken ≡ false
+      taken_fine e = sym (ap (misnamed? (rows site.shape)) e) ∙ fine.1
+
+      none_refused : around_refusal (length image) layout block named ≡ 0
+      unfolding around_refusal
+      none_refused = rw (there.passed, ← there.same_shape, passes)
+
+      pub mends_promised : {rows_taken : List ℕ} {found : Around} {after : List ℕ} → named ≡ rows_taken
+          → Mends image layout block site.shape rows_taken found after
+          → VisitsAround image layout block named (Ok found) after named
+      unfolding around_after
+      mends_promised {found = found} {after = after} e m =
+          promised image layout block named (Ok found) after (rw (none_refused, ← there.same_shape, e) (ap Ok m.says))
+          (rw (none_refused, ← there.same_shape, e) m.leaves)
+
+      -- a valid block is clean, and stays
+      module _ (valid : ValidBlock site.shape found_code) where
+        long : rows site.shape ≤ length found_code
+        long = rw (length_gathered layout block image) (rows_fit site.shape)
+
+        within : RowsTo (rows site.shape) named
+        within = rows_within (rows site.shape) named fine.1
+
+        valid_says : Clean ≡ around_of site.shape named found_code
+        unfolding around_of
+        valid_says =
+            rw (
+              valid_kept site.shape named found_code long within few valid,
+              valid_inside site.shape named found_code long within few valid,
+              valid_outside site.shape named found_code long within few valid,
+            )
+
+        valid_leaves : image ≡ placed layout block (around_block site.shape named found_code) image
+        valid_leaves =
+            sym (placed_gathered layout block image)
+            ∙ placed_same layout block found_code (around_block site.shape named found_code) image (length_gathered layout block image)
+            (length_around site.shape named found_code ∙ length_gathered layout block image)
+            (λ k h. valid_row site.shape named found_code long within few valid k (rw there.same_shape h))
+
+        valid_promised : VisitsAround image layout block named (Ok Clean) image named
+        valid_promised = mends_promised refl (record { says = valid_says; leaves = valid_leaves })
+
+      pub clean_promised : {lent after : List ℕ} {found : Finding} → Looks site.shape image site.at site.s lent found after → found ≡ NoDoubt
+          → VisitsAround image layout block named (Ok Clean) image named
+      clean_promised looks none = valid_promised (valid_there looks none)

@@ -35,6 +35,3 @@ law (suc n) f g t =
     let p = same? n (f true) (g true) in
     let q = same? n (f false) (g false) in
     either (λ b. Same n (f b) (g b)) (law n (f true) (g true) (left_part p q t)) (law n (f false) (g false) (right_part p q t))
-
-try_it : (x y z : Bool) → x && (y ⊕ z) ≡ (x && y) ⊕ (x && z)
-try_it = law 3 _ _ tt

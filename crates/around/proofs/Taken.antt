@@ -16,12 +16,27 @@ use Rattle.lane.specs.Bit.{bit, ◌⊕◌}
 use Rattle.lane.proofs.Bits.{bit_of_xor, bit_zero, bit_high, xor_cancel}
 use Rattle.sums.proofs.WordBits.{digit_one}
 use Rattle.block.proofs.Flips.{trailing_set}
-use Rattle.around.specs.Inner.{mark, changed_by, lanes_told, Marks, Made, Solves}
+use Rattle.std.specs.Prelude.{Option, Some}
+use Rattle.shape.specs.declared.Shape.{Shape}
+use Rattle.shape.specs.Shape.{before, rows}
+use Rattle.shape.proofs.Sizes.{before_small}
+use Rattle.around.specs.Refusal.{misnamed?}
+use Rattle.around.specs.Inner.{more_rows, row_or_none, mark, changed_by, lanes_told, Made, Solves}
+use Rattle.around.proofs.Calls.{three, third_there}
 use Rattle.around.proofs.ThreeRows.{Three}
-use Rattle.around.proofs.One.{changed_bit}
+use Rattle.around.proofs.Digits.{bit_changed}
 use Rattle.around.proofs.Tables.{law}
 
 -- ---- marks
+
+-- two marks, or three; a third that is 0 is none
+pub record Marks (a b c : ℕ) : Type 0 where
+  pub a_mark : (128 ≤ a) × (a < 256)
+  pub b_mark : (128 ≤ b) × (b < 256)
+  pub c_mark : (c ≡ 0) ⊎ ((128 ≤ c) × (c < 256))
+  pub a_b : a ≡ b → ⊥
+  pub a_c : a ≡ c → ⊥
+  pub b_c : b ≡ c → ⊥
 
 pub lowest_digit : (n : ℕ) → 0 < n → n < 256 → (count_trailing_zeros 32 n < 8) × (bit (count_trailing_zeros 32 n) n ≡ true)
 lowest_digit n low high =
@@ -60,7 +75,7 @@ mark_apart m r q lr hr lq hq ne e =
     (λ h. ⊎_elim (λ g. omega arith) (λ g. omega arith) (mark_row m q lq hq))
     (mark_row m r lr hr))
 
-pub three_marks : (m : ℕ) (small : m < 128) {a b c : ℕ} → Three m small a b c → Marks (mark (suc m) a) (mark (suc m) b) (mark (suc m) c)
+three_marks : (m : ℕ) (small : m < 128) {a b c : ℕ} → Three m small a b c → Marks (mark (suc m) a) (mark (suc m) b) (mark (suc m) c)
 three_marks m small {a} {b} {c} three =
     let low = three.a_row in
     let mid = three.b_row in
@@ -164,15 +179,15 @@ module _ (sums : List ℕ) {a b c : ℕ} (marks : Marks a b c) where
     t = bit i told_lanes
 
     first_bit : (k : ℕ) → k < 8 → bit i (get_or first k 0) ≡ d k ⊕ (bit k a && o)
-    first_bit = changed_bit a odds sums i
+    first_bit = bit_changed a odds sums i
 
     second_bit : (k : ℕ) → k < 8 → bit i (get_or second k 0) ≡ (d k ⊕ (bit k a && o)) ⊕ ((bit k a ⊕ bit k b) && t)
-    second_bit k h = changed_bit (bit_xor a b) told_lanes first i k h ∙ ap₂ (λ (s v : Bool). s ⊕ (v && t)) (first_bit k h) (bit_of_xor k a b)
+    second_bit k h = bit_changed (bit_xor a b) told_lanes first i k h ∙ ap₂ (λ (s v : Bool). s ⊕ (v && t)) (first_bit k h) (bit_of_xor k a b)
 
     third_bit : (n m : ℕ) (k : ℕ) → k < 8 → bit i (get_or (third (bit_xor n m)) k 0)
         ≡ bit i (get_or second k 0) ⊕ ((bit k n ⊕ bit k m) && bit i (third_lanes (bit_xor n m)))
     third_bit n m k h =
-        changed_bit (bit_xor n m) (third_lanes (bit_xor n m)) second i k h
+        bit_changed (bit_xor n m) (third_lanes (bit_xor n m)) second i k h
         ∙ ap (λ (v : Bool). bit i (get_or second k 0) ⊕ (v && bit i (third_lanes (bit_xor n m)))) (bit_of_xor k n m)
 
   -- ---- two marks
@@ -296,3 +311,17 @@ module _ (sums : List ℕ) {a b c : ℕ} (marks : Marks a b c) where
             complete = ac_complete;
             no_third = λ z. absurd (some z);
           }
+
+-- ---- the marks of rows that are named
+
+module _ (shape : Shape) (a b : ℕ) (c : Option ℕ) (named : misnamed? (rows shape) (more_rows a b c) ≡ false) where
+  pub named_marks : Marks (mark (rows shape) a) (mark (rows shape) b) (mark (rows shape) (row_or_none c))
+  named_marks = three_marks (before shape) (before_small shape) (three shape a b c named)
+
+  -- a third that is there has one
+  pub some_mark : (r : ℕ) → c ≡ Some r → mark (rows shape) (row_or_none c) ≡ 0 → ⊥
+  some_mark r e z =
+      let is : row_or_none c ≡ r = ap row_or_none e in
+      let there = third_there shape a b c named r e in
+      let within = mark_within (before shape) (row_or_none c) (before_small shape) (omega (arith, there.0, is)) (omega (arith, there.1, is)) in
+      omega (arith, within.0)

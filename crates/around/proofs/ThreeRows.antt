@@ -3,7 +3,7 @@
 use Prim.Native.Nat.{ℕ, zero, suc, ◌+◌, ◌≤◌, ◌<◌}
 use mathlib.Core.Bool.{Bool, true, false, not, cond, ◌&&◌, ◌||◌, and-false, and-true, true≢false}
 use mathlib.Core.Path.{◌≡◌, refl, sym, ap, ap₂, ◌∙◌}
-use mathlib.Core.List.{List}
+use mathlib.Core.List.{List, [], ◌∷◌}
 use mathlib.Core.Logic.{inr, ⊎_elim, by_cases}
 use native.Mathlib.Decide.{ℕ_discrete}
 use native.Mathlib.Omega.{arith}
@@ -19,9 +19,14 @@ use Rattle.lane.proofs.Mended.{⊕-cancel, ⊕-self, count_empty}
 use Rattle.lane.proofs.Exactly.{sum_lt}
 use Rattle.around.specs.Named.{among?, spare?}
 use Rattle.around.specs.Lane.{outside, MeantLane}
-use Rattle.around.specs.Inner.{more_rows, mark, Made}
+use Rattle.around.specs.Inner.{mark, Made}
 use Rattle.around.proofs.Lanes.{RowsTo}
 use Rattle.around.proofs.Marks.{digits, digits_diff, digits_same, one, RowOrNone, one_count, one_digit}
+
+-- two rows, and a third that is not 0
+abbrev pub rows_named : (a b c : ℕ) → List ℕ
+rows_named a b zero = a ∷ b ∷ []
+rows_named a b (suc c) = a ∷ b ∷ suc c ∷ []
 
 module _ (m : ℕ) (small : m < 128) where
   pub record Three (a b c : ℕ) : Type 0 where
@@ -32,10 +37,10 @@ module _ (m : ℕ) (small : m < 128) where
     pub a_c : a ≡ c → ⊥
     pub b_c : b ≡ c → ⊥
 
-  pub three_within : {a b c : ℕ} → Three a b c → RowsTo (suc m) (more_rows a b c)
+  pub three_within : {a b c : ℕ} → Three a b c → RowsTo (suc m) (rows_named a b c)
   three_within {a} {b} {c} rows = by c rows.c_row
     where
-      by : (c : ℕ) → RowOrNone m c → RowsTo (suc m) (more_rows a b c)
+      by : (c : ℕ) → RowOrNone m c → RowsTo (suc m) (rows_named a b c)
       by zero h = (rows.a_row.0, rows.a_row.1, (rows.b_row.0, rows.b_row.1, tt))
       by (suc c) h =
           ⊎_elim (λ e. absurd (omega arith)) (λ r. (rows.a_row.0, rows.a_row.1, (rows.b_row.0, rows.b_row.1, (r.0, r.1, tt)))) h
@@ -79,7 +84,7 @@ module _ (m : ℕ) (small : m < 128) where
     -- ---- the rows are the named ones
 
     abbrev named : List ℕ
-    named = more_rows a b c
+    named = rows_named a b c
 
     -- outside them nothing is changed
     still : (x y z : Bool) (j : ℕ) → not (among? named (suc j)) && flips a b c x y z (suc j) ≡ false
@@ -97,7 +102,7 @@ module _ (m : ℕ) (small : m < 128) where
         outside_three false false true = refl
         outside_three false false false = rw (and-false x, and-false y, and-false z)
 
-        by : (c : ℕ) → not (among? (more_rows a b c) (suc j)) && flips a b c x y z (suc j) ≡ false
+        by : (c : ℕ) → not (among? (rows_named a b c) (suc j)) && flips a b c x y z (suc j) ≡ false
         by zero = rw (eqb-suc-zero j) (outside_two (eqb (suc j) a) (eqb (suc j) b))
         by (suc c) = outside_three (eqb (suc j) a) (eqb (suc j) b) (eqb (suc j) (suc c))
 
@@ -120,7 +125,7 @@ module _ (m : ℕ) (small : m < 128) where
       abbrev d : Lane
       d = diff f g
 
-      no_spare : (c : ℕ) → pick (spare? (more_rows a b c)) 1 ≡ 0
+      no_spare : (c : ℕ) → pick (spare? (rows_named a b c)) 1 ≡ 0
       no_spare zero = refl
       no_spare (suc c) = refl
 
@@ -131,7 +136,7 @@ module _ (m : ℕ) (small : m < 128) where
           ap (λ (t : Bool). not t && d (suc j)) (sym (by c nc))
           ∙ empty (suc m) (outside named f g) (omega (arith, meant.near, no_spare c)) j l
         where
-          by : (c : ℕ) → (suc j ≡ c → ⊥) → among? (more_rows a b c) (suc j) ≡ false
+          by : (c : ℕ) → (suc j ≡ c → ⊥) → among? (rows_named a b c) (suc j) ≡ false
           by zero nc = rw (ne_eqb (suc j) a na, ne_eqb (suc j) b nb)
           by (suc c) nc = rw (ne_eqb (suc j) a na, ne_eqb (suc j) b nb, ne_eqb (suc j) (suc c) nc)
 

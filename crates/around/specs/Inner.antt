@@ -1,46 +1,36 @@
 -- What the code computes on its way: the list that is lent, and 32 lanes at once. Assumes nothing.
-use Rattle.std.specs.Prelude.{ℕ, zero, suc, ◌+◌, ◌*◌, ◌-◌, ◌≤◌, ◌<◌, Bool, false, cond, ◌&&◌, ◌≡◌, List, [], ◌∷◌, ◌⊎◌, eqb, length, get_or, set}
+use Rattle.std.specs.Prelude.{ℕ, zero, suc, ◌+◌, ◌*◌, ◌-◌, ◌≤◌, ◌<◌, Bool, false, cond, ◌&&◌, ◌≡◌}
+use Rattle.std.specs.Prelude.{List, [], ◌∷◌, eqb, length, get_or, set, Option, None, Some, Ok}
 use Rattle.std.specs.Int.Bits.{bit_xor}
 use Rattle.std.specs.Int.Count.{count_trailing_zeros}
 use Rattle.lane.specs.Bit.{bit, ◌⊕◌, pick}
 use Rattle.lane.specs.Decision.{Kind, even, beyond}
-use Rattle.ground.specs.Choice.{if_zero}
 use Rattle.ground.specs.Lists.{list_of}
 use Rattle.shape.specs.declared.Shape.{Shape}
 use Rattle.layout.specs.declared.Layout.{Layout}
-use Rattle.layout.specs.Layout.{shape_of, index}
-use Rattle.layout.specs.Refusal.{block_refusal}
+use Rattle.layout.specs.declared.Site.{Site}
+use Rattle.layout.specs.Site.{Locates}
 use Rattle.sums.specs.Sums.{sums_of}
+use Rattle.block.specs.declared.Verdict.{Verdict}
 use Rattle.block.specs.declared.Verdict.TheVariants as verdicts
 use Rattle.block.specs.Block.{ValidBlock, lanes_lost_as}
-use Rattle.store.specs.declared.Answer.{Answer}
-use Rattle.store.specs.declared.Answer.TheVariants as answers
 use Rattle.store.specs.Image.{gathered, placed}
 use Rattle.around.specs.declared.Around.{Around}
-use Rattle.around.specs.declared.Around.TheVariants.{Refused, Clean, Mended, Lost, LostAround}
-use Rattle.around.specs.declared.naming.Named.{Named}
-use Rattle.around.specs.declared.naming.Named.TheVariants.{Wrong, Rows}
+use Rattle.around.specs.declared.Around.TheVariants.{Clean, Mended, Lost, LostAround}
 use Rattle.around.specs.declared.solving.Told.{Told}
 use Rattle.around.specs.Block.{lanes_lost_around, around_block, bits_inside, bits_outside}
-use Rattle.around.specs.Refusal.{named_refusal}
 
 -- ---- the list
 
--- the first n of three rows
-abbrev pub first_rows : (n a b c : ℕ) → List ℕ
-first_rows zero a b c = []
-first_rows (suc zero) a b c = a ∷ []
-first_rows (suc (suc zero)) a b c = a ∷ b ∷ []
-first_rows (suc (suc (suc n))) a b c = a ∷ b ∷ c ∷ []
+-- two rows, and a third where there is one
+abbrev pub more_rows : (a b : ℕ) (c : Option ℕ) → List ℕ
+more_rows a b None = a ∷ b ∷ []
+more_rows a b (Some c) = a ∷ b ∷ c ∷ []
 
--- the rows of a list, or why it is refused
-unfoldable pub named_of : ℕ → List ℕ → Named
-named_of last list = if_zero (named_refusal last list) (Rows (get_or list 0 0) (get_or list 1 0) (get_or list 2 0)) (Wrong (named_refusal last list))
-
--- two rows, and a third where it is not 0
-abbrev pub more_rows : (a b c : ℕ) → List ℕ
-more_rows a b zero = a ∷ b ∷ []
-more_rows a b (suc c) = a ∷ b ∷ suc c ∷ []
+-- a third row, or 0
+abbrev pub row_or_none : Option ℕ → ℕ
+row_or_none None = 0
+row_or_none (Some c) = c
 
 -- ---- the sums
 
@@ -55,15 +45,6 @@ changed_by mark lanes sums = list_of 8 (λ k. bit_xor (get_or sums k 0) (pick (b
 -- the lanes that the lowest digit of a mark tells
 abbrev pub lanes_told : ℕ → List ℕ → ℕ
 lanes_told mark sums = get_or sums (count_trailing_zeros 32 mark) 0
-
--- two marks, or three; a third that is 0 is none
-pub record Marks (a b c : ℕ) : Type 0 where
-  pub a_mark : (128 ≤ a) × (a < 256)
-  pub b_mark : (128 ≤ b) × (b < 256)
-  pub c_mark : (c ≡ 0) ⊎ ((128 ≤ c) × (c < 256))
-  pub a_b : a ≡ b → ⊥
-  pub a_c : a ≡ c → ⊥
-  pub b_c : b ≡ c → ⊥
 
 -- a lane's digits are made by the marks of those of three rows that are wrong in it
 abbrev pub Made : (digits : ℕ → Bool) (a b c : ℕ) (x y z : Bool) → Type 0
@@ -89,13 +70,11 @@ changed_at image at word = set image at (bit_xor (get_or image at 0) word)
 
 -- ---- the answer itself
 
--- what an ordinary visit answers, as a visit around no row
-abbrev pub unnamed : Answer → Around
-unnamed (answers.Refused number) = Refused number
-unnamed answers.Stored = Clean
-unnamed (answers.Found verdicts.Clean) = Clean
-unnamed (answers.Found (verdicts.Mended m)) = Mended 0 m
-unnamed (answers.Found (verdicts.Lost e b)) = Lost e b
+-- what an ordinary visit finds, as a visit around no row
+abbrev pub unnamed : Verdict → Around
+unnamed verdicts.Clean = Clean
+unnamed (verdicts.Mended m) = Mended 0 m
+unnamed (verdicts.Lost e b) = Lost e b
 
 -- by the named rows, the lanes lost, how many are of each kind, and the bits changed inside and outside
 abbrev pub around_by : List ℕ → ℕ → (Kind → ℕ) → (i o : ℕ) → Around
@@ -113,14 +92,12 @@ around_of shape named block =
 -- ---- a block that was looked at
 
 -- where it lies, and its sums; it is not valid
-pub record Looked (image : List ℕ) (layout : Layout) (block : ℕ) (shape : Shape) (at : ℕ) (sums : List ℕ) : Type 0 where
-  pub passed : block_refusal (length image) layout block ≡ 0
-  pub same_shape : shape ≡ shape_of layout
-  pub first : at ≡ index layout block 1
-  pub are : sums ≡ sums_of shape (gathered layout block image)
-  pub doubt : ValidBlock shape (gathered layout block image) → ⊥
+pub record Looked (image : List ℕ) (layout : Layout) (block : ℕ) (site : Site) (sums : List ℕ) : Type 0 where
+  pub there : Locates (length image) layout block (Ok site)
+  pub are : sums ≡ sums_of site.shape (gathered layout block image)
+  pub doubt : ValidBlock site.shape (gathered layout block image) → ⊥
 
--- what is answered of it and left of the image, around named rows
-pub record Mends (image : List ℕ) (layout : Layout) (block : ℕ) (shape : Shape) (named : List ℕ) (answer : Around) (after : List ℕ) : Type 0 where
-  pub says : answer ≡ around_of shape named (gathered layout block image)
+-- what is found of it and left of the image, around named rows
+pub record Mends (image : List ℕ) (layout : Layout) (block : ℕ) (shape : Shape) (named : List ℕ) (found : Around) (after : List ℕ) : Type 0 where
+  pub says : found ≡ around_of shape named (gathered layout block image)
   pub leaves : after ≡ placed layout block (around_block shape named (gathered layout block image)) image

@@ -5,13 +5,15 @@ mod naming;
 mod solving;
 mod visiting;
 
+ghost use Rattle.std.specs.Prelude.{◌≡◌};
+ghost use Rattle.around.specs.Inner.{unnamed};
+
+use block::Verdict;
 pub use visiting::visit_around;
 
-// What a visit around named rows answers.
-#[derive(Clone, Copy)]
+// What a visit around named rows finds.
+#[derive(Clone, Copy, Debug, PartialEq, Eq)]
 pub enum Around {
-    // The number of the first rule that the arguments break.
-    Refused(u32),
     Clean,
     // How many bits are changed inside the named rows, and how many outside.
     Mended(u32, u32),
@@ -19,4 +21,17 @@ pub enum Around {
     Lost(u32, u32),
     // Rows are named: how many lanes cannot be made valid around them.
     LostAround(u32),
+}
+
+// What an ordinary visit finds, as a visit around no row: its bits are changed outside.
+impl From<Verdict> for Around {
+    ghost from_gives = { λ verdict given. given ≡ unnamed verdict };
+
+    fn from(verdict: Verdict) -> Around {
+        match verdict {
+            Verdict::Clean => Around::Clean,
+            Verdict::Mended(bits) => Around::Mended(0, bits),
+            Verdict::Lost(even, beyond) => Around::Lost(even, beyond),
+        }
+    }
 }

@@ -7,11 +7,11 @@ use mathlib.Core.Logic.{⊎_elim, by_cases}
 use native.Mathlib.Decide.{ℕ_discrete}
 use native.Mathlib.Nat.{le_refl, eq-or-lt_of_le, le_of_suc-le-suc, add-zero}
 use native.Mathlib.Omega.{arith}
-use lib.Bits.{bit_xor, bit_or, xor_lt, xor_zero_r, or_add_and, and_le_l, and_le_r}
+use lib.Bits.{bit_xor, xor_lt, xor_zero_r}
 use lib.Dec.{eqb, ltb, lit≤}
-use lib.ListN.{length, get_or, set, replicate, length-set}
+use lib.ListN.{length, get_or, set, length-set}
 use lib.Pow.{pow_pos, pow_mono, pow-lt}
-use lib.Seq.{get_or-set_same, get_or-set_other, ext_get_or}
+use lib.Seq.{get_or-set_same, get_or-set_other}
 use borrow.Author.Tests.{eq-eqb, ne_eqb, lt-ltb, le-ltb}
 use Rattle.lane.specs.Bit.{bit, ◌⊕◌}
 use Rattle.lane.specs.Lane.{Lane, sum, count, odd}
@@ -30,13 +30,12 @@ use Rattle.sums.specs.Words.{lane, word}
 use Rattle.ground.specs.Stores.{stores}
 use Rattle.ground.proofs.Stores.{length_stores, stores_hit, stores_miss}
 use Rattle.block.specs.Block.{data_block, valid_block}
-use Rattle.sums.specs.Sums.{lying, sums_of, Looks}
-use Rattle.sums.specs.Inner.{any_of, Kept}
+use Rattle.sums.specs.Sums.{lying, sums_of}
 use Rattle.block.specs.Inner.{xor_all, with_checks}
 use Rattle.sums.proofs.WordBits.{number_bits, number_same}
-use Rattle.ground.proofs.Lists.{list_is, zeros_at}
+use Rattle.ground.proofs.Lists.{list_is}
 use Rattle.sums.proofs.RowSums.{same_eight}
-use Rattle.sums.proofs.Doubt.{digit_in, odd_in_lem, word_lt, some_doubt}
+use Rattle.sums.proofs.Doubt.{digit_in, odd_in_lem, word_lt}
 use Rattle.shape.proofs.Sizes.{before_lt}
 use Rattle.block.proofs.Data.{before_digits, length_data, data_miss, data_lt}
 
@@ -274,34 +273,12 @@ lies_whole : (block : List ℕ) → length block ≡ 72 → lying Two block 0 1 
 unfolding lying
 lies_whole block e = sym (list_is 72 block _ e (λ j h. ap (λ (k : ℕ). get_or block k 0) (omega arith)))
 
--- where no lane has a one in any word, each word is zero
-or_none : (a b : ℕ) → bit_or a b ≡ 0 → (a ≡ 0) × (b ≡ 0)
-or_none a b e = (omega (arith, or_add_and a b, and_le_r a b), omega (arith, or_add_and a b, and_le_l a b))
-
-any_none : (l : List ℕ) (n : ℕ) → any_of n l ≡ 0 → (k : ℕ) → k < n → get_or l k 0 ≡ 0
-unfolding any_of
-any_none l zero e k h = absurd (omega arith)
-any_none l (suc n) e k h =
-    let o = or_none (any_of n l) (get_or l n 0) e in
-    ⊎_elim (λ q. ap (λ (j : ℕ). get_or l j 0) q ∙ o.1) (λ b. any_none l n o.0 k b) (eq-or-lt_of_le (le_of_suc-le-suc h))
-
--- words kept in zeros are there either way: those that are not kept are zeros themselves
-kept_in_zeros : (l after : List ℕ) (found : ℕ) → length l ≡ 8 → Kept l found (replicate 8 0) after → after ≡ l
-kept_in_zeros l after zero e k = k.1 ∙ sym (ext_get_or 0 l (replicate 8 0) e (λ j h. any_none l 8 (sym k.0) j (omega arith) ∙ sym (zeros_at 8 j)))
-kept_in_zeros l after (suc n) e k = k.1
-
-eight : (block : List ℕ) → length (sums_of Two block) ≡ 8
-unfolding sums_of
-eight block = refl
-
--- the sums of shape 2, kept in zeros, of a data block of either shape, as it is stored, are its own
-pub own_sums : (shape : Shape) (list : List ℕ) {block after : List ℕ} {found : ℕ} → block ≡ complemented (data_block shape list)
-    → Looks Two block 0 1 (replicate 8 0) found after → after ≡ sums_of shape (data_block shape list)
-own_sums shape list {block} {after} {found} e l =
+-- the sums of shape 2 of a data block of either shape, as it is stored, are its own
+pub own_sums : (shape : Shape) (list : List ℕ) {block words : List ℕ} → block ≡ complemented (data_block shape list)
+    → words ≡ sums_of Two (complemented (lying Two block 0 1)) → words ≡ sums_of shape (data_block shape list)
+own_sums shape list {block} e are =
     let long : length block ≡ 72 = ap length e ∙ length_complemented (data_block shape list) ∙ length_data shape list in
-    let k = l.there (omega (arith, long)) in
-    let code = complemented (lying Two block 0 1) in
-    kept_in_zeros _ after found (eight code) (k.0 ∙ sym (some_doubt Two code), k.1)
+    are
     ∙ ap (sums_of Two) (ap complemented (lies_whole block long ∙ e) ∙ complemented_twice (data_block shape list))
     ∙ sums_of_two shape list
 

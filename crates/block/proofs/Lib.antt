@@ -12,3 +12,4 @@ pub mod ByWords
 pub mod Verdicts
 pub mod Decided
 pub mod Told
+mod Weights

@@ -8,7 +8,7 @@ mod tables;
 pub use coding::{data_into, data_of, encode};
 pub use mending::{decide, mend};
 
-#[derive(Clone, Copy)]
+#[derive(Clone, Copy, Debug, PartialEq, Eq)]
 pub enum Verdict {
     Clean,
     // How many bits are changed.

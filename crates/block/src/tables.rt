@@ -1,6 +1,6 @@
 // The data rows of each shape, by their numbers.
 
-// The data rows of shape 1.
+// The data rows of shape 1; they begin those of shape 2, which stand apart as the specification lists them.
 pub const DATA_ONE: [u8; 11] = [3, 5, 6, 7, 9, 10, 11, 12, 13, 14, 15];
 
 // The data rows of shape 2.

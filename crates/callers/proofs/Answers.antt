@@ -5,13 +5,16 @@ use mathlib.Core.List.{List, [], ◌∷◌, ◌++◌}
 use lib.ListN.{get_or}
 use Rattle.block.specs.Verdict.{said_words}
 use Rattle.layout.specs.declared.Layout.{Layout}
-use Rattle.store.specs.Answer.{answer_number, answer_words}
+use Rattle.store.specs.Answer.{answer_words}
+use Rattle.refusal.specs.Refusal.{answer_number}
 use Rattle.store.specs.Read.{read_answer}
 use Rattle.store.specs.Visit.{visit_answer}
 use Rattle.store.specs.Write.{write_answer}
 use Rattle.store.proofs.Promises.{writes, reads, visits}
 use Rattle.rota.specs.Numbers.{place_number, place_given}
 use Rattle.patrol.specs.declared.Report.{Report}
+use Rattle.refusal.specs.declared.Refusal.{Refusal}
+use Rattle.std.specs.Prelude.{Result}
 use Rattle.patrol.specs.Ask.{asked}
 use Rattle.patrol.specs.Turn.{turned}
 use Rattle.patrol.specs.Numbers.{Seen, report_number, report_words, seen_words}
@@ -54,10 +57,10 @@ turn_said {lent} {image} c =
 
 -- ---- what the words of a report name
 
-pub patrol_named : (block : ℕ) (report : Report) → PatrolVisits block report
+pub patrol_named : (block : ℕ) (report : Result Report Refusal) → PatrolVisits block report
     → (report_number report ≡ 0) × (get_or (report_words report) 0 0 ≡ block) × (get_or (report_words report) 1 0 ≡ 0 → ⊥)
 patrol_named block report h = (h.0, h.1.0, h.1.1)
 
-pub ask_named : (block : ℕ) (report : Report) → AskVisits block report
+pub ask_named : (block : ℕ) (report : Result Report Refusal) → AskVisits block report
     → (report_number report ≡ 0) × (get_or (report_words report) visit_width 0 ≡ block) × (get_or (report_words report) (suc visit_width) 0 ≡ 0 → ⊥)
 ask_named block report h = (h.0, h.1.0, h.1.1)

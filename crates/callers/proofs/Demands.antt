@@ -13,7 +13,7 @@ use Rattle.layout.specs.Reason.{image_rules, block_rules}
 use Rattle.store.specs.Reason.{data_rules}
 use Rattle.store.specs.Read.{read_answer, read_buffer}
 use Rattle.store.specs.Visit.{visit_answer, visit_after}
-use Rattle.store.specs.declared.Answer.{Answer}
+use Rattle.store.specs.Answer.{Answer}
 use Rattle.store.specs.Answer.{answer_words}
 use Rattle.store.proofs.Promises.{writes, reads, visits}
 use Rattle.patrol.specs.declared.Record.{Record}

@@ -7,15 +7,16 @@ use Rattle.ground.specs.Choice.{if_zero}
 use Rattle.ground.specs.Rules.{Ruled, InOrder}
 use Rattle.layout.specs.declared.Layout.{Layout}
 use Rattle.layout.specs.Layout.{layout_of}
-use Rattle.file.specs.declared.Header.{Header}
-use Rattle.file.specs.declared.Header.TheVariants.{Image}
+use Rattle.refusal.specs.Refusal.{answer_number, answered}
+use Rattle.file.specs.Header.{Header}
 use Rattle.file.specs.Bytes.{FittingBytes, version_in, layout_in, image_in}
 use Rattle.file.specs.Refusal.{read_refusal}
 use Rattle.file.specs.Reason.{file_rules, read_rules, write_rules}
-use Rattle.file.specs.Header.{header_number, header_layout, header_if, header_of, HeaderTells, HeaderRead, ReadsFile}
-use Rattle.file.specs.Written.{written_number, written_bytes, WritesFile, write_answer}
+use Rattle.file.specs.Header.{header_layout, header_of, HeaderTells, HeaderRead, ReadsFile}
+use Rattle.file.specs.Written.{written_bytes, WritesFile, write_answer}
 use Rattle.file.proofs.Headers.{tells_if, header_read}
 use Rattle.file.proofs.FileWrites.{file_written}
+use Rattle.file.proofs.Ladder.{read_known}
 use Rattle.words.specs.Layouts.{layout_held, layout_words}
 use Rattle.foldgrebe.specs.FileCalls.{FileWriteCall, FileLayoutCall, FileReadCall}
 use Rattle.demands.specs.RoundTrip.{Read, whole, Rewritten, renewed}
@@ -32,9 +33,9 @@ module _ {image buffer : List ℕ} {layout : Layout} {number : ℕ} {kept after 
   wrote : WritesFile image layout buffer (write_answer image layout buffer) kept after
   wrote =
       let w = file_written image layout buffer in
-      record { number = w.number; bytes = w.bytes; keeps = c.keeps; leaves = c.leaves; numbered = w.numbered }
+      record { number = w.number; bytes = w.bytes; keeps = c.keeps; leaves = c.leaves }
 
-  wrote_number : number ≡ written_number (write_answer image layout buffer)
+  wrote_number : number ≡ answer_number (write_answer image layout buffer)
   wrote_number = c.answers ∙ sym wrote.number
 
   wrote_bytes : written ≡ written_bytes (write_answer image layout buffer) ∷ []
@@ -43,25 +44,30 @@ module _ {image buffer : List ℕ} {layout : Layout} {number : ℕ} {kept after 
 -- a header's number and words
 tells : {refusal number : ℕ} {named : Layout} {words : List ℕ} (header : Header) → HeaderTells refusal named header → number ≡ refusal
     → words ≡ layout_words (if_zero refusal named (layout_of 0 0 0))
-    → (number ≡ header_number header) × (words ≡ layout_words (header_layout header))
+    → (number ≡ answer_number header) × (words ≡ layout_words (header_layout header))
 tells header t n w = (n ∙ sym t.number, w ∙ ap layout_words (sym t.layout))
 
 told : (bytes : List ℕ) → HeaderRead bytes (header_of bytes)
 told bytes = header_read bytes (header_of bytes) refl
 
 module _ {bytes : List ℕ} {number : ℕ} {kept words : List ℕ} (c : FileLayoutCall bytes number kept words) where
-  told_so : (number ≡ header_number (header_of bytes)) × (words ≡ layout_words (header_layout (header_of bytes)))
+  told_so : (number ≡ answer_number (header_of bytes)) × (words ≡ layout_words (header_layout (header_of bytes)))
   told_so = tells (header_of bytes) (told bytes) c.answers c.says
 
 -- what reading a file to an image answers
 abbrev read_of : List ℕ → List ℕ → Header
-read_of bytes image = header_if (read_refusal bytes (length image)) (Image (layout_in bytes))
+read_of bytes image = answered (read_refusal bytes (length image)) (layout_in bytes)
 
 module _ {bytes image : List ℕ} {number : ℕ} {kept after words : List ℕ} (c : FileReadCall bytes image number kept after words) where
   read : ReadsFile bytes image (read_of bytes image) kept after
-  read = record { answers = tells_if (read_refusal bytes (length image)) (layout_in bytes); keeps = c.keeps; leaves = c.leaves }
+  read =
+      record {
+        answers = tells_if (read_refusal bytes (length image)) (layout_in bytes) (read_known bytes (length image));
+        keeps = c.keeps;
+        leaves = c.leaves;
+      }
 
-  read_so : (number ≡ header_number (read_of bytes image)) × (words ≡ layout_words (header_layout (read_of bytes image)))
+  read_so : (number ≡ answer_number (read_of bytes image)) × (words ≡ layout_words (header_layout (read_of bytes image)))
   read_so = tells (read_of bytes image) read.answers c.answers c.says
 
 -- ---- refusals

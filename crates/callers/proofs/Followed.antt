@@ -4,14 +4,12 @@ use mathlib.Core.Path.{◌≡◌, refl, sym, ap, ◌∙◌}
 use mathlib.Core.List.{List, [], ◌∷◌}
 use native.Mathlib.Omega.{arith}
 use lib.ListN.{length}
-use Rattle.ground.specs.Choice.{if_zero}
 use Rattle.ground.proofs.Choices.{choice_of}
 use Rattle.layout.specs.declared.Layout.{Layout}
-use Rattle.rota.specs.Line.{places}
 use Rattle.store.specs.Fresh.{fresh_after}
 use Rattle.store.specs.Write.{write_answer, write_after}
 use Rattle.store.specs.Visit.{visit_answer, visit_after}
-use Rattle.store.specs.Answer.{answer_number}
+use Rattle.refusal.specs.Refusal.{answer_number}
 use Rattle.store.specs.Read.{read_answer}
 use Rattle.rota.specs.Numbers.{place_number}
 use Rattle.patrol.specs.declared.Record.{Record}

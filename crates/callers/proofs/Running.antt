@@ -1,14 +1,13 @@
 -- Every list of steps has a run: each call leaves something, and the record that it leaves has 21 words again. Assumes nothing.
 use Prim.Native.Nat.{ℕ, zero, suc}
-use mathlib.Core.Path.{◌≡◌, refl, sym, ap, subst, ◌∙◌}
-use mathlib.Core.List.{List, [], ◌∷◌, ◌++◌}
+use mathlib.Core.Path.{◌≡◌, refl, subst, ◌∙◌}
+use mathlib.Core.List.{List, [], ◌∷◌}
 use native.Mathlib.Omega.{arith}
 use lib.ListN.{length, drop, length-drop, length-append}
 use lib.Seq.{length-take-le}
 use Rattle.ground.specs.Choice.{if_zero}
-use Rattle.block.specs.Verdict.{unsaid, to_say, said_words}
 use Rattle.layout.specs.declared.Layout.{Layout}
-use Rattle.layout.specs.Layout.{shape_of, blocks}
+use Rattle.layout.specs.Layout.{blocks}
 use Rattle.layout.specs.Refusal.{layout_refusal, image_refusal}
 use Rattle.rota.specs.Line.{places, asks_of}
 use Rattle.rota.proofs.Ranges.{ask_long, turn_long}

@@ -6,7 +6,7 @@ use Rattle.layout.specs.declared.Layout.{Layout}
 use Rattle.layout.specs.Layout.{words_of, blocks}
 use Rattle.layout.specs.Reason.{image_rules, block_rules}
 use Rattle.rota.specs.Line.{places, asks_of}
-use Rattle.store.specs.declared.Answer.{Answer}
+use Rattle.store.specs.Answer.{Answer}
 use Rattle.store.specs.Answer.{answer_words}
 use Rattle.store.specs.Reason.{data_rules}
 use Rattle.store.specs.Visit.{visit_answer, visit_after}

@@ -17,14 +17,14 @@ use Rattle.layout.specs.declared.Layout.{Layout}
 use Rattle.layout.specs.Layout.{shape_of}
 use Rattle.layout.specs.Refusal.{image_refusal}
 use Rattle.layout.proofs.Ladder.{image_layout, image_exact}
-use Rattle.store.specs.declared.Answer.{Answer}
+use Rattle.store.specs.Answer.{Stored}
 use Rattle.store.specs.Fresh.{fresh_image, fresh_after}
 use Rattle.store.specs.Image.{gathered}
 use Rattle.store.specs.Refusal.{data_refusal}
 use Rattle.store.specs.Write.{Writes, write_after}
 use Rattle.store.proofs.After.{write_words}
 use Rattle.store.proofs.FreshBlocks.{length_fresh, fresh_words, fresh_block}
-use Rattle.patrol.specs.declared.Formatted.{Formatted}
+use Rattle.patrol.specs.Handed.{Formatted}
 use Rattle.patrol.specs.Format.{Formats}
 use Rattle.demands.specs.Burst.{AllValid}
 use Rattle.demands.proofs.Demand2.{demand_2}
@@ -52,7 +52,7 @@ fresh_valid image layout answer after p z =
     subst (AllValid layout) (sym (p.leaves ∙ made)) (fresh_all layout (length image) fits)
 
 pub write_valid : (image : List ℕ) (layout : Layout) → AllValid layout image
-    → (block : ℕ) (list : List ℕ) (answer : Answer) (after : List ℕ) → Fitting list → Writes image layout block list answer after
+    → (block : ℕ) (list : List ℕ) (answer : Stored) (after : List ℕ) → Fitting list → Writes image layout block list answer after
     → AllValid layout after
 unfolding gathered write_after
 write_valid image layout all block list answer after small p =

@@ -13,7 +13,7 @@ use Rattle.layout.proofs.Ladder.{geometry, image_layout}
 use Rattle.store.specs.Read.{Reads, read_answer, read_buffer}
 use Rattle.store.specs.Refusal.{data_refusal}
 use Rattle.store.proofs.Promises.{reads}
-use Rattle.patrol.specs.declared.Formatted.{Formatted}
+use Rattle.patrol.specs.Handed.{Formatted}
 use Rattle.patrol.specs.Format.{Formats}
 use Rattle.demands.specs.Steps.{read, turns}
 use Rattle.demands.specs.Demand3.{store}

@@ -1,5 +1,5 @@
 -- Demand 1 holds of every call. Assumes nothing.
-use Prim.Native.Nat.{ℕ}
+use Prim.Native.Nat.{ℕ, ◌≤◌}
 use mathlib.Core.Path.{◌≡◌, refl, sym, subst, ◌∙◌}
 use mathlib.Core.List.{List}
 use lib.Dec.{T}
@@ -10,19 +10,22 @@ use Rattle.ground.proofs.Choices.{refused_kept}
 use Rattle.ground.proofs.Rules.{distinct?, ruled}
 use Rattle.layout.specs.declared.Layout.{Layout}
 use Rattle.layout.specs.Reason.{block_rules}
-use Rattle.layout.proofs.Ladder.{block_first}
-use Rattle.store.specs.declared.Answer.{Answer}
-use Rattle.store.specs.Answer.{answer_number, answered}
+use Rattle.layout.proofs.Ladder.{block_first, block_known}
+use Rattle.block.specs.Verdict.{Said, unsaid}
+use Rattle.store.specs.Answer.{answer_said, stored_said}
+use Rattle.refusal.specs.Refusal.{numbered, answer_number, answered}
 use Rattle.store.specs.Reason.{data_rules}
 use Rattle.store.specs.Write.{write_answer, write_after}
 use Rattle.store.specs.Read.{read_answer, read_buffer}
 use Rattle.store.specs.Visit.{visit_answer, visit_after}
-use Rattle.store.proofs.Answers.{answered_number, answered_refused}
-use Rattle.store.proofs.Ladder.{data_first}
+use Rattle.refusal.proofs.Answered.{answered_number, answered_refused}
+use Rattle.store.proofs.Ladder.{data_first, data_known}
 use Rattle.store.proofs.Promises.{writes_answer, reads_answer, visits_answer}
 use Rattle.store.specs.Fresh.{fresh_after}
 use Rattle.patrol.specs.declared.Record.{Record}
 use Rattle.patrol.specs.declared.Report.{Report}
+use Rattle.refusal.specs.declared.Refusal.{Refusal}
+use Rattle.std.specs.Prelude.{Result, Err}
 use Rattle.patrol.specs.Numbers.{unseen, report_number, report_first, report_second}
 use Rattle.patrol.specs.Format.{formatted}
 use Rattle.patrol.specs.Ask.{asked}
@@ -34,35 +37,44 @@ use Rattle.patrol.proofs.Reasons.{format_first, ask_first, turn_first}
 use Rattle.demands.specs.Demand1.{Refusing, FormatRefusing, AskRefusing, Bare, TurnRefusing, Demand1}
 
 -- a call that answers the first of its rules, and leaves what was lent where it refuses
-module _ (rules : List Rule) (number : ℕ) (inner : Answer) (plain : answer_number inner ≡ 0) (t : T (distinct? rules)) (first : FirstOf rules number) where
-  counted : answer_number (answered number inner) ≡ number
-  counted = answered_number number inner plain
+module _ {A : Type 0} (number : ℕ) (value : A) (known : number ≤ 14) where
+  counted : answer_number (answered number value) ≡ number
+  counted = answered_number number value known
 
-  refused : (answer_number (answered number inner) ≡ 0 → ⊥) → number ≡ 0 → ⊥
+  refused : (answer_number (answered number value) ≡ 0 → ⊥) → number ≡ 0 → ⊥
   refused ne e = ne (counted ∙ e)
 
-  pub refusing : (new lent : List ℕ) → Refusing rules (answered number inner) lent (if_zero number new lent)
-  refusing new lent =
+  pub refusing : (said_in : Result A Refusal → Said) → ((refusal : Refusal) → said_in (Err refusal) ≡ unsaid)
+      → (rules : List Rule) → T (distinct? rules) → FirstOf rules number
+      → (new lent : List ℕ)
+      → Refusing said_in rules (answered number value) lent (if_zero number new lent)
+  refusing said_in bare rules t first new lent =
       record {
         ruled = rw counted (ruled rules number t first);
-        bare = λ ne. rw (answered_refused number inner (refused ne)) (refl, refl, refl);
+        bare = λ ne. rw (answered_refused number value (refused ne), bare (numbered number)) (refl, refl, refl);
         unchanged = λ ne. refused_kept number new lent (refused ne);
       }
 
 module _ (image : List ℕ) (layout : Layout) (block : ℕ) where
   pub write_refuses : (list : List ℕ)
-      → Refusing (data_rules (length image) layout block (length list)) (write_answer image layout block list) image (write_after image layout block list)
+      → Refusing stored_said (data_rules (length image) layout block (length list)) (write_answer image layout block list) image
+      (write_after image layout block list)
   unfolding write_answer write_after
-  write_refuses list = refusing _ _ _ refl tt (data_first (length image) layout block (length list)) _ image
+  write_refuses list =
+      refusing _ _ (data_known (length image) layout block (length list)) stored_said (λ r. refl) _ tt
+      (data_first (length image) layout block (length list)) _ image
 
   pub read_refuses : (buffer : List ℕ)
-      → Refusing (data_rules (length image) layout block (length buffer)) (read_answer image layout block buffer) buffer (read_buffer image layout block buffer)
+      → Refusing answer_said (data_rules (length image) layout block (length buffer)) (read_answer image layout block buffer) buffer
+      (read_buffer image layout block buffer)
   unfolding read_answer read_buffer
-  read_refuses buffer = refusing _ _ _ refl tt (data_first (length image) layout block (length buffer)) _ buffer
+  read_refuses buffer =
+      refusing _ _ (data_known (length image) layout block (length buffer)) answer_said (λ r. refl) _ tt
+      (data_first (length image) layout block (length buffer)) _ buffer
 
-  pub visit_refuses : Refusing (block_rules (length image) layout block) (visit_answer image layout block) image (visit_after image layout block)
+  pub visit_refuses : Refusing answer_said (block_rules (length image) layout block) (visit_answer image layout block) image (visit_after image layout block)
   unfolding visit_answer visit_after
-  visit_refuses = refusing _ _ _ refl tt (block_first layout (length image) block) _ image
+  visit_refuses = refusing _ _ (block_known layout (length image) block) answer_said (λ r. refl) _ tt (block_first layout (length image) block) _ image
 
 pub format_refuses : (image : List ℕ) (layout : Layout) → FormatRefusing image layout (formatted image layout) (fresh_after image layout)
 format_refuses image layout =
@@ -72,7 +84,7 @@ pub ask_refuses : (r : Record) (block : ℕ) → AskRefusing r block (asked r bl
 ask_refuses r block =
     record { ruled = ruled _ _ tt (ask_first r block); bare = place_bare (asked r block).place; unchanged = ask_unchanged r block }
 
-turn_bare : (report : Report) → (report_number report ≡ 0 → ⊥) → Bare (report_first report) × Bare (report_second report)
+turn_bare : (report : Result Report Refusal) → (report_number report ≡ 0 → ⊥) → Bare (report_first report) × Bare (report_second report)
 turn_bare report ne =
     let none : Bare unseen = (refl, (refl, refl, refl)) in
     let bare = report_bare report ne in

@@ -13,9 +13,9 @@ use Rattle.block.proofs.ValidBlocks.{valid_is, holds_data, valid_only}
 use Rattle.layout.specs.declared.Layout.{Layout}
 use Rattle.layout.specs.Layout.{shape_of}
 use Rattle.layout.specs.Refusal.{block_refusal}
-use Rattle.store.specs.declared.Answer.{Answer}
-use Rattle.store.specs.declared.Answer.TheVariants.{Found}
-use Rattle.store.specs.Answer.{answer_number}
+use Rattle.store.specs.Answer.{Answer, Stored}
+use Rattle.std.specs.Prelude.{Ok}
+use Rattle.refusal.specs.Refusal.{answer_number}
 use Rattle.stored.specs.Stored.{complemented}
 use Rattle.stored.proofs.Forms.{complemented_fits, complemented_twice}
 use Rattle.store.specs.Image.{stored_rows, gathered}
@@ -56,7 +56,7 @@ module _ (image : List ℕ) (layout : Layout) (block : ℕ) where
   unfolding mended_block
   lost_left some = refused_kept (lanes_lost shape found) _ found some
 
-  says : block_refusal (length image) layout block ≡ 0 → visit_answer image layout block ≡ Found (verdict_of shape found)
+  says : block_refusal (length image) layout block ≡ 0 → visit_answer image layout block ≡ Ok (verdict_of shape found)
   unfolding visit_answer
   says e = rw e
 
@@ -110,23 +110,24 @@ module _ (image : List ℕ) (layout : Layout) (block : ℕ) where
       })
 
 -- what a promise allows is what the call answers and leaves; a call that answers number 0 was not refused
-module _ (image : List ℕ) (layout : Layout) (block : ℕ) (answer : Answer) where
-  visit_allowed : (after : List ℕ) → Fitting image → Visits image layout block answer after → answer_number answer ≡ 0
+module _ (image : List ℕ) (layout : Layout) (block : ℕ) where
+  visit_allowed : (answer : Answer) (after : List ℕ) → Fitting image → Visits image layout block answer after → answer_number answer ≡ 0
       → Visiting image layout block answer after
-  visit_allowed after fits p z =
+  visit_allowed answer after fits p z =
       let e = visits_answer image layout block p in
       rw (e, p.leaves) (visit_mends image layout block fits (sym (visit_number image layout block) ∙ sym (ap answer_number e) ∙ z))
 
-  write_allowed : (list after : List ℕ) → Fitting list → Writes image layout block list answer after → answer_number answer ≡ 0
+  write_allowed : (list : List ℕ) (answer : Stored) (after : List ℕ) → Fitting list → Writes image layout block list answer after → answer_number answer ≡ 0
       → Writing image layout block list after
-  write_allowed list after fits p z =
+  write_allowed list answer after fits p z =
       let e = writes_answer image layout block list p in
       rw p.leaves (write_stores image layout block list fits (sym (write_number image layout block list) ∙ sym (ap answer_number e) ∙ z))
 
-  read_allowed : (buffer kept filled : List ℕ) → Fitting image → Reads image layout block buffer answer kept filled → answer_number answer ≡ 0
+  read_allowed : (buffer : List ℕ) (answer : Answer) (kept filled : List ℕ) → Fitting image → Reads image layout block buffer answer kept filled
+      → answer_number answer ≡ 0
       → (visited : Answer) (after : List ℕ) → Visits image layout block visited after
       → Reading layout block buffer answer filled visited after
-  read_allowed buffer kept filled fits p z visited after q =
+  read_allowed buffer answer kept filled fits p z visited after q =
       let e = reads_answer image layout block buffer p in
       rw (e, p.leaves, visits_answer image layout block q, q.leaves)
       (read_mends image layout block fits buffer (sym (read_number image layout block buffer) ∙ sym (ap answer_number e) ∙ z))
@@ -135,8 +136,8 @@ pub demand_2 : Demand2
 demand_2 =
     record {
       visit = visit_allowed;
-      write = λ image layout block list answer after. write_allowed image layout block answer list after;
-      read = λ image layout block buffer answer kept filled. read_allowed image layout block answer buffer kept filled;
+      write = write_allowed;
+      read = read_allowed;
       turn = passes_on;
       read_leaves = λ image layout block buffer answer kept filled p. p.keeps;
     }

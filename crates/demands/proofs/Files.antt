@@ -1,5 +1,6 @@
 -- The demand on files holds, whatever is lent. Assumes nothing.
-use Prim.Native.Nat.{ℕ, zero, suc}
+use Prim.Native.Nat.{ℕ, zero, suc, ◌≤◌}
+use native.Mathlib.Omega.{arith}
 use mathlib.Core.Path.{◌≡◌, refl, ap, ◌∙◌}
 use mathlib.Core.List.{List, append-nil}
 use native.Mathlib.Decide.{ℕ_discrete}
@@ -11,14 +12,16 @@ use Rattle.ground.proofs.Choices.{refused_kept}
 use Rattle.ground.proofs.InOrder.{in_order, given_some, given_first}
 use Rattle.layout.specs.declared.Layout.{Layout}
 use Rattle.layout.specs.Layout.{layout_of}
-use Rattle.file.specs.declared.Header.{Header}
-use Rattle.file.specs.declared.Written.{Written}
+use Rattle.refusal.specs.Refusal.{answer_number}
+use Rattle.refusal.proofs.Answered.{number_of_numbered}
+use Rattle.file.specs.Header.{Header}
+use Rattle.file.specs.Written.{Written}
 use Rattle.file.specs.Bytes.{file_of, file_into, layout_in, image_in}
 use Rattle.file.specs.Refusal.{file_refusal, read_refusal, write_refusal}
 use Rattle.file.specs.Reason.{file_rules, read_rules, write_rules}
 use Rattle.file.specs.Header.{header_of, HeaderRead, ReadsFile}
-use Rattle.file.specs.Written.{written_number, written_bytes, WritesFile}
-use Rattle.file.proofs.Ladder.{file_first}
+use Rattle.file.specs.Written.{written_bytes, WritesFile}
+use Rattle.file.proofs.Ladder.{file_known, file_first}
 use Rattle.file.proofs.RoundTrip.{length_file}
 use Rattle.file.proofs.FileReads.{read_first}
 use Rattle.file.proofs.FileWrites.{write_first}
@@ -42,7 +45,9 @@ module _ (bytes : List ℕ) where
   refused_line : (number : ℕ) → (number ≡ 0 → ⊥) → file_refusal bytes ≡ number → end_to_end (report_of bytes) ≡ refusal_line number
   unfolding report_of header_of end_to_end
   refused_line zero ne e = absurd (ne refl)
-  refused_line (suc number) ne e = rw e (append-nil (refusal_line (suc number)))
+  refused_line (suc number) ne e =
+      let known : suc number ≤ 14 = omega (arith, file_known bytes) in
+      rw (e, number_of_numbered (suc number) known (λ z. omega arith)) (append-nil (refusal_line (suc number)))
 
   pub accepted_lines : file_refusal bytes ≡ 0 → report_of bytes ≡ image_report (image_in bytes) (layout_in bytes)
   unfolding report_of header_of
@@ -106,7 +111,7 @@ file_writes image layout buffer answer kept after w =
       keeps = w.keeps;
     }
   where
-    kept_so : (written_number answer ≡ 0 → ⊥) → write_refusal (length image) layout (length buffer) ≡ 0 → ⊥
+    kept_so : (answer_number answer ≡ 0 → ⊥) → write_refusal (length image) layout (length buffer) ≡ 0 → ⊥
     kept_so ne z = ne (w.number ∙ z)
 
     past : drop (written_bytes answer) after ≡ drop (written_bytes answer) buffer

@@ -13,11 +13,12 @@ use Rattle.store.specs.Fresh.{fresh_image, fresh_after}
 use Rattle.store.proofs.After.{visit_untouched, write_untouched}
 use Rattle.store.proofs.FreshBlocks.{length_fresh}
 use Rattle.rota.specs.declared.Due.{Due}
-use Rattle.rota.specs.declared.Due.TheVariants.{Refused as NoneDue, One as OneDue, Two as TwoDue}
+use Rattle.std.specs.Prelude.{Option, Some, None, Result, Ok, Err}
+use Rattle.refusal.specs.declared.Refusal.{Refusal}
 use Rattle.patrol.specs.declared.Record.{Record}
 use Rattle.patrol.specs.Ask.{asked, asked_by}
 use Rattle.patrol.specs.Format.{formatted}
-use Rattle.patrol.specs.Turn.{visited, patrolled, turned_now, turned, turn_after, turned_by}
+use Rattle.patrol.specs.Turn.{visited, ask_patrolled, image_by, turned_now, turned, turn_after, turned_by}
 use Rattle.patrol.proofs.Unchanged.{format_unchanged}
 use Rattle.demands.specs.Steps.{Step, format, write, read, visit, ask, turn, flip, State, fresh, step_after, after, answers}
 use Rattle.demands.specs.Demand3.{store}
@@ -25,17 +26,19 @@ use Rattle.demands.proofs.Flips.{length_flipped}
 
 -- ---- the length
 
-due_size : (layout : Layout) (image : List ℕ) (d : Due) → length (patrolled layout image d) ≡ length image
-due_size layout image (NoneDue number) = refl
-due_size layout image (OneDue first) = (visit_untouched image layout first).size
-due_size layout image (TwoDue first second) =
-    (visit_untouched (visited layout image first) layout second).size ∙ (visit_untouched image layout first).size
+ask_size : (layout : Layout) (image : List ℕ) (served : Option ℕ) → length (ask_patrolled layout image served) ≡ length image
+ask_size layout image None = refl
+ask_size layout image (Some block) = (visit_untouched image layout block).size
+
+due_size : (layout : Layout) (image : List ℕ) (d : Result Due Refusal) → length (image_by layout image d) ≡ length image
+due_size layout image (Err refusal) = refl
+due_size layout image (Ok due) = ask_size layout (visited layout image due.patrol) due.ask ∙ (visit_untouched image layout due.patrol).size
 
 turn_size : (r : Record) (image : List ℕ) → length (turn_after r image) ≡ length image
 unfolding turn_after
 turn_size r image = go (image_refusal (length image) r.layout)
   where
-    go : (number : ℕ) → length (if_zero number (patrolled r.layout image (turned_now r).due) image) ≡ length image
+    go : (number : ℕ) → length (if_zero number (image_by r.layout image (turned_now r).due) image) ≡ length image
     go zero = due_size r.layout image (turned_now r).due
     go (suc number) = refl
 

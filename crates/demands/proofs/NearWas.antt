@@ -27,8 +27,8 @@ use Rattle.layout.specs.Refusal.{block_refusal}
 use Rattle.layout.proofs.Ladder.{accepted, block_accepted, image_exact}
 use Rattle.layout.proofs.Index.{one_to_one}
 use Rattle.layout.proofs.RowsInside.{interleaved}
-use Rattle.store.specs.declared.Answer.{Answer}
-use Rattle.store.specs.Answer.{answer_number}
+use Rattle.store.specs.Answer.{Answer}
+use Rattle.refusal.specs.Refusal.{answer_number}
 use Rattle.store.specs.Image.{stored_rows, gathered}
 use Rattle.store.specs.Read.{Reads}
 use Rattle.store.specs.Visit.{Visits, visit_answer, visit_after}

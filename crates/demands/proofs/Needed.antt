@@ -20,7 +20,8 @@ use Rattle.block.proofs.ByWords.{fit?}
 use Rattle.layout.specs.declared.Layout.{Layout}
 use Rattle.layout.specs.Layout.{layout_of, shape_numbered, blocks}
 use Rattle.layout.specs.Refusal.{layout_refusal, image_refusal, block_refusal}
-use Rattle.store.specs.Answer.{answer_number, answer_said}
+use Rattle.store.specs.Answer.{answer_said}
+use Rattle.refusal.specs.Refusal.{answer_number}
 use Rattle.store.specs.Fresh.{fresh_image, fresh_after}
 use Rattle.stored.specs.Stored.{complemented}
 use Rattle.store.specs.Image.{stored_rows, with_rows, gathered, placed}

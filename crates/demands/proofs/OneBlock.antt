@@ -18,7 +18,7 @@ use Rattle.block.specs.Block.{ValidBlock, lanes_lost, lanes_lost_as, bits_change
 use Rattle.block.specs.declared.Verdict.TheVariants.{Lost}
 use Rattle.block.specs.Verdict.{verdict_number, verdict_count, verdict_beyond, Said, said_of, verdict, verdict_of}
 use Rattle.block.proofs.Blocks.{kept_valid, kept_near, near_none, near_rows, mended_fits, length_mended}
-use Rattle.store.specs.declared.Answer.TheVariants.{Found}
+use Rattle.std.specs.Prelude.{Ok}
 use Rattle.store.proofs.StoredBlocks.{apart_stored, bits_stored, same_stored}
 use Rattle.block.proofs.Told.{three_lost, lost_three, kept_count, clean_none, none_clean, counts, few_lost, kinds_lost, beyond_one, clean_left}
 use Rattle.demands.specs.Demand2.{ValidStored, Meant, LaneLost, LaneLostAs, CountsLanes, Mends}
@@ -152,7 +152,7 @@ module _ (shape : Shape) (found : List ℕ) (fits : Fitting found) (long : rows 
   says_lost : verdict_number (verdict lost kinds changed) ≡ 3 → said_of (verdict lost kinds changed) ≡ said_of (Lost (kinds even) (kinds beyond))
   says_lost says = lost_three kinds lost changed (three_lost kinds lost changed says)
 
-  pub mends : Mends shape found left (Found (verdict_of shape code))
+  pub mends : Mends shape found left (Ok (verdict_of shape code))
   unfolding verdict_of
   mends =
       record {

@@ -2,7 +2,7 @@
 use Prim.Native.Nat.{ℕ, ◌+◌, ◌≤◌, ◌<◌}
 use mathlib.Core.Path.{◌≡◌, refl, sym, ap, ap₂, subst, ◌∙◌}
 use native.Mathlib.Omega.{arith}
-use mathlib.Core.List.{List, [], ◌∷◌, ◌++◌, append_assoc, append-nil}
+use mathlib.Core.List.{List, ◌∷◌, ◌++◌, append_assoc, append-nil}
 use native.Mathlib.Nat.{one-le-mul}
 use lib.ListN.{length}
 use Rattle.block.proofs.Verdicts.{verdict_some}
@@ -13,8 +13,8 @@ use Rattle.layout.proofs.Ladder.{geometry, image_layout}
 use Rattle.store.specs.Fresh.{fresh_after, fresh_image}
 use Rattle.rota.specs.declared.Rota.{Rota}
 use Rattle.rota.specs.declared.Due.{Due}
-use Rattle.rota.specs.declared.Due.TheVariants.{Two as TwoDue}
-use Rattle.rota.specs.declared.Place.TheVariants.{Given}
+use Rattle.std.specs.Prelude.{Some, Result, Ok}
+use Rattle.refusal.specs.declared.Refusal.{Refusal}
 use Rattle.rota.specs.Numbers.{first_block, place_given}
 use Rattle.rota.specs.Record.{fresh as freshRota, rota_asked, rota_turned}
 use Rattle.rota.specs.Steps.{turn as rotaTurn, turns as rotaTurns, rota_run, rota_at, due_at}
@@ -29,7 +29,7 @@ use Rattle.patrol.specs.declared.Turned.{Turned}
 use Rattle.patrol.specs.Ask.{asked}
 use Rattle.patrol.specs.Format.{formatted}
 use Rattle.patrol.specs.Numbers.{report_number}
-use Rattle.patrol.specs.Turn.{seen, visited as visitedIn, reported, turned_now, turned}
+use Rattle.patrol.specs.Turn.{seen, visited as visitedIn, report_by, turned_now, turned}
 use Rattle.patrol.proofs.Promises.{asks_answer, turns_answer}
 use Rattle.demands.specs.Steps.{Step, ask, turn, fresh, after, step_after, report, turns}
 use Rattle.demands.specs.Demand3.{PatrolVisits, AskVisits, store, NotFormatted, TurnsAccepted, EveryBlockVisited, AskServed}
@@ -41,20 +41,16 @@ use Rattle.demands.proofs.Simulated.{OfStore, run_stays, run_rota}
 -- ---- what a turn reports of the blocks that are due
 
 turn_reports : (r : Record) (image : List ℕ) → image_refusal (length image) r.layout ≡ 0
-    → (turned r image).report ≡ reported r.layout image (turned_now r).due
+    → (turned r image).report ≡ report_by r.layout image (turned_now r).due
 unfolding turned
 turn_reports r image e = rw e
 
-due_report : (layout : Layout) (image : List ℕ) (next : ℕ) (asks : List ℕ) → report_number (reported layout image (due_of next asks)) ≡ 0
-due_report layout image next [] = refl
-due_report layout image next (first ∷ asks) = refl
+due_names : (layout : Layout) (image : List ℕ) (next : ℕ) (asks : List ℕ) (block : ℕ) → first_block (Ok (due_of next asks)) ≡ block
+    → PatrolVisits block (report_by layout image (Ok (due_of next asks)))
+due_names layout image next asks block e = (refl, (e, verdict_some (seen layout image next)))
 
-due_names : (layout : Layout) (image : List ℕ) (next : ℕ) (asks : List ℕ) (block : ℕ) → first_block (due_of next asks) ≡ block
-    → PatrolVisits block (reported layout image (due_of next asks))
-due_names layout image next [] block e = (refl, (e, verdict_some (seen layout image next)))
-due_names layout image next (first ∷ asks) block e = (refl, (e, verdict_some (seen layout image next)))
-
-ask_names : (layout : Layout) (image : List ℕ) (first second : ℕ) → AskVisits second (reported layout image (TwoDue first second))
+ask_names : (layout : Layout) (image : List ℕ) (first second : ℕ)
+    → AskVisits second (report_by layout image (Ok (record { patrol = first; ask = Some second })))
 ask_names layout image first second = (refl, (refl, verdict_some (seen layout (visitedIn layout image first) second)))
 
 -- the parts of a store's steps, the rota after them, what it says, and the blocks that are then due
@@ -68,7 +64,7 @@ module _ (image : List ℕ) (layout : Layout) where
   abbrev plan_after : List Step → Plan
   plan_after steps = plan_at (blocks layout) (parts_of steps)
 
-  abbrev due_after : List Step → Due
+  abbrev due_after : List Step → Result Due Refusal
   due_after steps = due_at (blocks layout) (parts_of steps)
 
 module _ (image : List ℕ) (layout : Layout) (fits : image_refusal (length image) layout ≡ 0) where
@@ -97,11 +93,11 @@ module _ (image : List ℕ) (layout : Layout) (fits : image_refusal (length imag
 
   -- what a turn reports, and an ask answers, after them
   report_after : (steps : List Step) → NotFormatted image layout steps
-      → report (store image layout steps) ≡ reported layout (store image layout steps).image (due_after image layout steps)
+      → report (store image layout steps) ≡ report_by layout (store image layout steps).image (due_after image layout steps)
   report_after steps none =
       let state = store image layout steps in
       turn_reports state.patrol state.image (rw ((stays steps none).names, (stays steps none).size) fits)
-      ∙ ap₂ (λ (l : Layout) (rota : Rota). reported l state.image (rota_turned (blocks l) rota).due) (stays steps none).names (rota_after_lem steps none)
+      ∙ ap₂ (λ (l : Layout) (rota : Rota). report_by l state.image (rota_turned (blocks l) rota).due) (stays steps none).names (rota_after_lem steps none)
 
   place_after : (steps : List Step) → NotFormatted image layout steps → (block : ℕ)
       → (asked (store image layout steps).patrol block).place ≡ (rota_asked (blocks layout) (rota_after image layout steps) block).place
@@ -111,15 +107,14 @@ module _ (image : List ℕ) (layout : Layout) (fits : image_refusal (length imag
   pub some_blocks : 1 ≤ blocks layout
   some_blocks = let g = geometry layout (image_layout layout (length image) fits) in one-le-mul g.g_first g.s_first
 
-  due_after_lem : (steps : List Step) → due_after image layout steps ≡ due (plan_after image layout steps)
+  due_after_lem : (steps : List Step) → due_after image layout steps ≡ Ok (due (plan_after image layout steps))
   due_after_lem steps = due_runs (blocks layout) some_blocks (parts_of image layout steps)
 
   -- ---- a
 
   accepted : (steps : List Step) → NotFormatted image layout steps → report_number (report (store image layout steps)) ≡ 0
   accepted steps none =
-      let plan = plan_after image layout steps in
-      rw (report_after steps none, due_after_lem steps) (due_report _ _ plan.next plan.asks)
+      rw (report_after steps none, due_after_lem steps) refl
 
   names : (steps : List Step) → NotFormatted image layout steps → (block : ℕ) → first_block (due_after image layout steps) ≡ block
       → PatrolVisits block (report (store image layout steps))
@@ -149,13 +144,13 @@ module _ (image : List ℕ) (layout : Layout) (fits : image_refusal (length imag
 
   served : (before between : List Step) (block place : ℕ) → NotFormatted image layout (before ++ ask block ∷ between)
       → NotFormatted image layout before
-      → (asked (store image layout before).patrol block).place ≡ Given place
+      → (asked (store image layout before).patrol block).place ≡ Ok place
       → turns between + 1 ≡ place
       → AskVisits block (report (store image layout (before ++ ask block ∷ between)))
   unfolding all_parts
   served before between block place all none e t =
       let later = step_after (ask block) (store image layout before) in
-      let got : (rota_asked (blocks layout) (rota_after image layout before) block).place ≡ Given place = sym (place_after before none block) ∙ e in
+      let got : (rota_asked (blocks layout) (rota_after image layout before) block).place ≡ Ok place = sym (place_after before none block) ∙ e in
       let turn_k : rotaTurns (all_parts between later) + 1 ≡ place = rw (parts_turns between later) t in
       let two = ask_served (blocks layout) some_blocks (parts_of image layout before) block place got (all_parts between later) turn_k in
       rw (report_after (before ++ ask block ∷ between) all, parts_append before (ask block ∷ between) (fresh image layout), two) (ask_names layout _ _ block)
@@ -182,7 +177,7 @@ asks_served image layout before between block all gives asks accepts turn_k answ
     let r = (store image layout before).patrol in
     let place = gives.place in
     let is : place ≡ (asked r block).place = ap (λ (a : Asked). a.place) (asks_answer r block asks) in
-    let got : (asked r block).place ≡ Given (place_given place) = sym is ∙ given place asks.numbered accepts in
+    let got : (asked r block).place ≡ Ok (place_given place) = sym is ∙ given place accepts in
     let fits = given_formatted image layout before none block (place_given place) got in
     let visits = served image layout fits before between block (place_given place) all none got (omega (arith, turn_k)) in
     subst (λ (a : Turned). AskVisits block a.report) (sym (turns_answer _ _ p).0) visits

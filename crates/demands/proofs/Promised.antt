@@ -4,10 +4,10 @@ use mathlib.Core.Path.{◌≡◌, refl, ap, ◌∙◌}
 use mathlib.Core.List.{List}
 use Rattle.ground.specs.Choice.{if_zero}
 use Rattle.layout.specs.declared.Layout.{Layout}
-use Rattle.patrol.specs.declared.Formatted.{Formatted}
+use Rattle.patrol.specs.Handed.{Formatted}
 use Rattle.patrol.specs.declared.Asked.{Asked}
 use Rattle.patrol.specs.declared.Turned.{Turned}
-use Rattle.store.specs.Answer.{answer_number}
+use Rattle.refusal.specs.Refusal.{answer_number}
 use Rattle.store.proofs.Promises.{writes, writes_answer, reads, reads_answer, visits, visits_answer}
 use Rattle.rota.specs.Numbers.{place_number}
 use Rattle.patrol.specs.Numbers.{report_number}

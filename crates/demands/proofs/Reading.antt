@@ -10,7 +10,7 @@ use Rattle.layout.specs.declared.Layout.{Layout}
 use Rattle.layout.specs.Layout.{shape_of, words_of}
 use Rattle.layout.specs.Refusal.{image_refusal, block_refusal}
 use Rattle.layout.proofs.Ladder.{block_image, accepted}
-use Rattle.store.specs.Answer.{answer_number}
+use Rattle.refusal.specs.Refusal.{answer_number}
 use Rattle.store.specs.Image.{gathered}
 use Rattle.store.specs.Read.{read_answer, read_buffer, mended_data}
 use Rattle.store.specs.Refusal.{data_refusal}

@@ -8,7 +8,7 @@ use Rattle.ground.specs.Choice.{if_zero}
 use Rattle.layout.specs.declared.Layout.{Layout}
 use Rattle.layout.specs.Layout.{layout_of}
 use Rattle.layout.specs.Refusal.{layout_refusal, image_refusal}
-use Rattle.rota.specs.declared.Place.TheVariants.{Given}
+use Rattle.std.specs.Prelude.{Ok}
 use Rattle.patrol.specs.declared.Record.{Record}
 use Rattle.patrol.specs.Ask.{asked, asked_by}
 use Rattle.patrol.specs.Format.{fresh_record, no_record, formatted}
@@ -17,11 +17,11 @@ use Rattle.demands.specs.Demand3.{store, NotFormatted}
 use Rattle.demands.proofs.Lasting.{after_layout}
 
 -- an ask that is given a place is of a record whose layout is accepted
-given_accepted : (r : Record) (block place : ℕ) → (asked r block).place ≡ Given place → layout_refusal r.layout ≡ 0
+given_accepted : (r : Record) (block place : ℕ) → (asked r block).place ≡ Ok place → layout_refusal r.layout ≡ 0
 unfolding asked
 given_accepted r block place e = go (layout_refusal r.layout) e
   where
-    go : (number : ℕ) → (asked_by r block number).place ≡ Given place → number ≡ 0
+    go : (number : ℕ) → (asked_by r block number).place ≡ Ok place → number ≡ 0
     go zero q = refl
     go (suc number) q = let z : ◌≡◌ {A = ℕ} 0 1 = cc in absurd (omega arith)
 
@@ -32,7 +32,7 @@ zeros_refused e = omega arith
 
 -- so where an ask is given a place, the format was accepted
 pub given_formatted : (image : List ℕ) (layout : Layout) (before : List Step) → NotFormatted image layout before → (block place : ℕ)
-    → (asked (store image layout before).patrol block).place ≡ Given place
+    → (asked (store image layout before).patrol block).place ≡ Ok place
     → image_refusal (length image) layout ≡ 0
 unfolding formatted
 given_formatted image layout before none block place e = go (image_refusal (length image) layout) refl

@@ -17,12 +17,12 @@ use Rattle.layout.proofs.Ladder.{image_exact, image_first}
 use Rattle.layout.proofs.Shapes.{shape_one, shape_two}
 use Rattle.stored.specs.Stored.{complemented_image}
 use Rattle.stored.proofs.Forms.{length_image}
-use Rattle.file.specs.declared.Written.{Written}
+use Rattle.file.specs.Written.{Written}
 use Rattle.file.specs.Bytes.{bytes_of, head_of, file_of, file_length, layout_in, word_count, words_in, image_in}
 use Rattle.file.specs.Written.{written_bytes, WritesFile}
 use Rattle.file.specs.Refusal.{long_rung, frame_refusal, body_refusal, file_refusal, read_refusal, write_refusal}
 use Rattle.file.specs.Reason.{too_long, no_room}
-use Rattle.file.proofs.Ladder.{accepted, header_image}
+use Rattle.file.proofs.Ladder.{accepted}
 use Rattle.file.proofs.Layouts.{length_words, words_layout}
 use Rattle.file.proofs.RoundTrip.{length_file, layout_back, image_back, refusal_back, file_renewed, file_back}
 use Rattle.text.specs.Page.{end_to_end}
@@ -88,7 +88,7 @@ unfolding write_refusal
 write_passed bytes image room e many l =
     let ok = accepted bytes e in
     let size : file_length (length image) ≡ length bytes = omega (arith, many, ok.body, ok.frame.least) in
-    let fits : image_refusal (length image) (layout_in bytes) ≡ 0 = rw many (words_layout bytes (layout_in bytes) (sym (header_image bytes e))) in
+    let fits : image_refusal (length image) (layout_in bytes) ≡ 0 = rw many (words_layout bytes e) in
     rw (fits, size, le-ltb 32768 (length bytes) ok.frame.most, le-ltb room (length bytes) l)
 
 -- what is written of what was read: the file of that image, and as long as the file that was read

@@ -10,20 +10,22 @@ use Rattle.block.specs.Block.{data_of}
 use Rattle.layout.specs.declared.Layout.{Layout}
 use Rattle.layout.specs.Layout.{shape_of, blocks}
 use Rattle.layout.specs.Refusal.{image_refusal}
-use Rattle.store.specs.declared.Answer.{Answer}
-use Rattle.store.specs.Answer.{answer_number, answer_said}
+use Rattle.store.specs.Answer.{Answer}
+use Rattle.store.specs.Answer.{answer_said}
+use Rattle.refusal.specs.Refusal.{answer_number}
 use Rattle.store.specs.Image.{stored_rows}
 use Rattle.store.specs.Read.{Reads}
 use Rattle.store.specs.Visit.{Visits, visit_answer, visit_after}
 use Rattle.store.proofs.Promises.{visits}
 use Rattle.rota.specs.declared.Due.{Due}
-use Rattle.rota.specs.declared.Due.TheVariants.{Refused as NoneDue, One as OneDue, Two as TwoDue}
+use Rattle.std.specs.Prelude.{Option, Some, None, Result, Ok, Err}
+use Rattle.refusal.specs.declared.Refusal.{Refusal}
 use Rattle.rota.specs.Line.{asks_of}
 use Rattle.patrol.specs.declared.Record.{Record}
 use Rattle.patrol.specs.declared.Turned.{Turned}
 use Rattle.patrol.specs.Format.{formatted}
 use Rattle.patrol.specs.Numbers.{Seen, report_number, report_first, report_second}
-use Rattle.patrol.specs.Turn.{patrolled, turned_now, turned, turn_after, Turns}
+use Rattle.patrol.specs.Turn.{ask_patrolled, image_by, turned_now, turned, turn_after, Turns}
 use Rattle.patrol.proofs.Promises.{turns as turned-allowed}
 use Rattle.demands.specs.Demand2.{Turning, SaysLost}
 use Rattle.demands.specs.Demand3.{PatrolVisits, store, NotFormatted}
@@ -89,19 +91,22 @@ module _ (layout : Layout) (image : List ℕ) (all : AllValid layout image) wher
     visit_keeps layout image all now ok block (visit_answer now layout block) (visit_after now layout block) (visited now block),
   )
 
-  leaves_due : (d : Due) (now : List ℕ) → NearWas layout image all now → Leaves now (patrolled layout now d)
-  leaves_due (NoneDue number) now ok = leaves_same now ok
-  leaves_due (OneDue first) now ok = leaves_visit now first ok
-  leaves_due (TwoDue first second) now ok =
-      let one = leaves_visit now first ok in
-      let two = leaves_visit (visit_after now layout first) second one.0 in (two.0, λ block h same. two.1 block h (one.1 block h same))
+  leaves_ask : (served : Option ℕ) (now : List ℕ) → NearWas layout image all now → Leaves now (ask_patrolled layout now served)
+  leaves_ask None now ok = leaves_same now ok
+  leaves_ask (Some block) now ok = leaves_visit now block ok
+
+  leaves_due : (d : Result Due Refusal) (now : List ℕ) → NearWas layout image all now → Leaves now (image_by layout now d)
+  leaves_due (Err refusal) now ok = leaves_same now ok
+  leaves_due (Ok due) now ok =
+      let one = leaves_visit now due.patrol ok in
+      let two = leaves_ask due.ask (visit_after now layout due.patrol) one.0 in (two.0, λ block h same. two.1 block h (one.1 block h same))
 
   leaves_turn : (r : Record) (now : List ℕ) → r.layout ≡ layout → NearWas layout image all now → Leaves now (turn_after r now)
   unfolding turn_after
   leaves_turn r now names ok = go (image_refusal (length now) r.layout)
     where
-      go : (number : ℕ) → Leaves now (if_zero number (patrolled r.layout now (turned_now r).due) now)
-      go zero = subst (λ (l : Layout). Leaves now (patrolled l now (turned_now r).due)) (sym names) (leaves_due (turned_now r).due now ok)
+      go : (number : ℕ) → Leaves now (if_zero number (image_by r.layout now (turned_now r).due) now)
+      go zero = subst (λ (l : Layout). Leaves now (image_by l now (turned_now r).due)) (sym names) (leaves_due (turned_now r).due now ok)
       go (suc number) = leaves_same now ok
 
   -- ---- quiet steps

@@ -16,14 +16,15 @@ use Rattle.store.specs.Visit.{visit_after}
 use Rattle.store.specs.Write.{write_after}
 use Rattle.rota.specs.declared.Rota.{Rota}
 use Rattle.rota.specs.declared.Due.{Due}
-use Rattle.rota.specs.declared.Due.TheVariants.{Refused as NoneDue, One as OneDue, Two as TwoDue}
+use Rattle.std.specs.Prelude.{Option, Some, None, Result, Ok, Err}
+use Rattle.refusal.specs.declared.Refusal.{Refusal}
 use Rattle.rota.specs.Memory.{Memory}
-use Rattle.rota.specs.Patrol.{visited, memory_run}
+use Rattle.rota.specs.Patrol.{ask_visited, visited, memory_run}
 use Rattle.rota.specs.Record.{rota_turned}
 use Rattle.rota.specs.Steps.{other, rota_run}
 use Rattle.rota.specs.Touches.{write as writes, read as reads, visit as visits}
 use Rattle.patrol.specs.Ask.{asked}
-use Rattle.patrol.specs.Turn.{patrolled, turned, turn_after}
+use Rattle.patrol.specs.Turn.{ask_patrolled, image_by, turned, turn_after}
 use Rattle.demands.specs.Steps.{Step, format, write, read, visit, ask, turn, flip, State, step_after, after, answers}
 use Rattle.demands.specs.Demand3.{SameLayout}
 use Rattle.demands.proofs.Numbers.{write_number, visit_number}
@@ -119,10 +120,13 @@ module _ (len : ℕ) (layout : Layout) (fits : image_refusal len layout ≡ 0) w
         go zero e = rw (same e)
         go (suc number) e = unfold visit_after in rw (sym (visit_number state.image named block) ∙ e)
 
-    due_parts : (d : Due) → patrolled layout state.image d ≡ visited memory d state.image
-    due_parts (NoneDue number) = refl
-    due_parts (OneDue first) = refl
-    due_parts (TwoDue first second) = refl
+    ask_parts : (served : Option ℕ) (now : List ℕ) → ask_patrolled layout now served ≡ ask_visited memory served now
+    ask_parts None now = refl
+    ask_parts (Some block) now = refl
+
+    due_parts : (d : Result Due Refusal) → image_by layout state.image d ≡ visited memory d state.image
+    due_parts (Err refusal) = refl
+    due_parts (Ok due) = ask_parts due.ask (visit_after state.image layout due.patrol)
 
     turn_parts : turn_after state.patrol state.image ≡ memory_run memory (parts turn state) state.patrol.rota state.image
     unfolding turn_after memory_run

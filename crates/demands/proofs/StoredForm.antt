@@ -36,9 +36,10 @@ use Rattle.block.specs.Block.{lanes_lost, lanes_lost_as, bits_changed, mended_bl
 use Rattle.block.specs.declared.Verdict.TheVariants.{Lost}
 use Rattle.block.specs.Verdict.{Said, said_of, verdict, verdict_of}
 use Rattle.block.proofs.Told.{few_lost, kinds_lost}
-use Rattle.store.specs.declared.Answer.{Answer}
-use Rattle.store.specs.declared.Answer.TheVariants.{Found}
-use Rattle.store.specs.Answer.{answer_number, answer_said}
+use Rattle.store.specs.Answer.{Answer}
+use Rattle.std.specs.Prelude.{Ok}
+use Rattle.store.specs.Answer.{answer_said}
+use Rattle.refusal.specs.Refusal.{answer_number}
 use Rattle.store.specs.Fresh.{fresh_image, fresh_after}
 use Rattle.store.specs.Image.{stored_rows, gathered}
 use Rattle.store.specs.Read.{Reads}
@@ -48,7 +49,7 @@ use Rattle.store.proofs.Promises.{visits, visits_answer}
 use Rattle.store.proofs.FreshBlocks.{fresh_word_lem}
 use Rattle.rota.specs.Line.{asks_of}
 use Rattle.patrol.specs.declared.Record.{Record}
-use Rattle.patrol.specs.declared.Formatted.{Formatted}
+use Rattle.patrol.specs.Handed.{Formatted}
 use Rattle.patrol.specs.declared.Turned.{Turned}
 use Rattle.patrol.specs.Format.{Formats}
 use Rattle.patrol.specs.Numbers.{report_number, report_first, report_second}
@@ -153,7 +154,7 @@ module _ (image : List ℕ) (layout : Layout) (block : ℕ) where
   dead_block answer after fits dead v z =
       let e = visits_answer image layout block v in
       let passed = sym (visit_number image layout block) ∙ sym (ap answer_number e) ∙ z in
-      let found : answer ≡ Found (Lost 32 0) = e ∙ rw passed (ap Found (dead_found dead)) in
+      let found : answer ≡ Ok (Lost 32 0) = e ∙ rw passed (ap Ok (dead_found dead)) in
       let said : answer_said answer ≡ said_of (Lost 32 0) = ap answer_said found in
       let says : (answer_said answer).verdict ≡ 3 = ap (λ (s : Said). s.verdict) said in (
         record { verdict = says; even = ap (λ (s : Said). s.count) said; beyond = ap (λ (s : Said). s.beyond) said },

@@ -14,7 +14,7 @@ use Rattle.layout.specs.declared.Layout.{Layout}
 use Rattle.layout.specs.Layout.{shape_of, blocks}
 use Rattle.layout.specs.Refusal.{image_refusal, block_refusal}
 use Rattle.layout.proofs.Ladder.{block_accepted}
-use Rattle.store.specs.declared.Answer.{Answer}
+use Rattle.store.specs.Answer.{Answer}
 use Rattle.store.specs.Answer.{answer_said}
 use Rattle.store.specs.Image.{gathered}
 use Rattle.store.specs.Visit.{visit_after, Visits}

@@ -6,13 +6,13 @@ use Rattle.block.specs.Block.{Fitting, SameRows, data_of}
 use Rattle.layout.specs.declared.Layout.{Layout}
 use Rattle.layout.specs.Layout.{shape_of, rows_of, words_of, blocks, index}
 use Rattle.layout.specs.Refusal.{image_refusal}
-use Rattle.store.specs.declared.Answer.{Answer}
-use Rattle.store.specs.Answer.{answer_number}
+use Rattle.store.specs.Answer.{Answer, Stored}
+use Rattle.refusal.specs.Refusal.{answer_number}
 use Rattle.store.specs.Image.{stored_rows}
 use Rattle.store.specs.Read.{Reads}
 use Rattle.store.specs.Visit.{Visits}
 use Rattle.store.specs.Write.{Writes}
-use Rattle.patrol.specs.declared.Formatted.{Formatted}
+use Rattle.patrol.specs.Handed.{Formatted}
 use Rattle.patrol.specs.declared.Turned.{Turned}
 use Rattle.patrol.specs.Format.{Formats}
 use Rattle.patrol.specs.Numbers.{report_first, report_second}
@@ -155,7 +155,7 @@ pub record Bursts : Type 0 where
       → answer.number ≡ 0
       → AllValid layout after
   pub write_valid : (image : List ℕ) (layout : Layout) → AllValid layout image
-      → (block : ℕ) (list : List ℕ) (answer : Answer) (after : List ℕ) → Fitting list → Writes image layout block list answer after
+      → (block : ℕ) (list : List ℕ) (answer : Stored) (after : List ℕ) → Fitting list → Writes image layout block list answer after
       → AllValid layout after
   -- every block is visited, in any order: the image is then what it was
   pub restored : (layout : Layout) (image spoiled : List ℕ) → Struck layout image spoiled

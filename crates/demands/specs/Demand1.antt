@@ -1,19 +1,20 @@
 -- Demand 1: a call is refused exactly for the stated reason, by the table's order, and a refused call changes nothing that was lent.
 -- Assumes nothing.
-use Rattle.std.specs.Prelude.{ℕ, ◌≡◌, List, length}
+use Rattle.std.specs.Prelude.{ℕ, ◌≡◌, List, length, Result}
 use Rattle.ground.specs.Rules.{Rule, Ruled}
 use Rattle.block.specs.Verdict.{Said}
 use Rattle.layout.specs.declared.Layout.{Layout}
 use Rattle.layout.specs.Reason.{image_rules, block_rules}
-use Rattle.store.specs.declared.Answer.{Answer}
-use Rattle.store.specs.Answer.{answer_number, answer_said}
+use Rattle.store.specs.Answer.{Answer, Stored, answer_said, stored_said}
+use Rattle.refusal.specs.declared.Refusal.{Refusal}
+use Rattle.refusal.specs.Refusal.{answer_number}
 use Rattle.store.specs.Reason.{data_rules}
 use Rattle.store.specs.Write.{Writes}
 use Rattle.store.specs.Read.{Reads}
 use Rattle.store.specs.Visit.{Visits}
 use Rattle.rota.specs.Numbers.{place_number, place_given}
 use Rattle.patrol.specs.declared.Record.{Record}
-use Rattle.patrol.specs.declared.Formatted.{Formatted}
+use Rattle.patrol.specs.Handed.{Formatted}
 use Rattle.patrol.specs.declared.Asked.{Asked}
 use Rattle.patrol.specs.declared.Turned.{Turned}
 use Rattle.patrol.specs.Format.{no_record, Formats}
@@ -27,9 +28,9 @@ abbrev pub Unsaid : Said → Type 0
 Unsaid said = (said.verdict ≡ 0) × (said.count ≡ 0) × (said.beyond ≡ 0)
 
 -- a call on an image that goes by a list of rules, with what was lent to it and what is left there
-pub record Refusing (rules : List Rule) (answer : Answer) (lent left : List ℕ) : Type 1 where
+pub record Refusing {A : Type 0} (said_in : Result A Refusal → Said) (rules : List Rule) (answer : Result A Refusal) (lent left : List ℕ) : Type 1 where
   pub ruled : Ruled rules (answer_number answer)
-  pub bare : (answer_number answer ≡ 0 → ⊥) → Unsaid (answer_said answer)
+  pub bare : (answer_number answer ≡ 0 → ⊥) → Unsaid (said_in answer)
   pub unchanged : (answer_number answer ≡ 0 → ⊥) → left ≡ lent
 
 -- the patrol's calls: a refused one hands back the record that it got, or, if it got none, one of zeros
@@ -53,14 +54,14 @@ pub record TurnRefusing (r : Record) (image : List ℕ) (answer : Turned) (after
 
 -- the demand: of every call, whatever its arguments, and of all that its promise allows
 pub record Demand1 : Type 1 where
-  pub write : (image : List ℕ) (layout : Layout) (block : ℕ) (list : List ℕ) (answer : Answer) (after : List ℕ)
+  pub write : (image : List ℕ) (layout : Layout) (block : ℕ) (list : List ℕ) (answer : Stored) (after : List ℕ)
       → Writes image layout block list answer after
-      → Refusing (data_rules (length image) layout block (length list)) answer image after
+      → Refusing stored_said (data_rules (length image) layout block (length list)) answer image after
   pub read : (image : List ℕ) (layout : Layout) (block : ℕ) (buffer : List ℕ) (answer : Answer) (kept after : List ℕ)
       → Reads image layout block buffer answer kept after
-      → Refusing (data_rules (length image) layout block (length buffer)) answer buffer after
+      → Refusing answer_said (data_rules (length image) layout block (length buffer)) answer buffer after
   pub visit : (image : List ℕ) (layout : Layout) (block : ℕ) (answer : Answer) (after : List ℕ) → Visits image layout block answer after
-      → Refusing (block_rules (length image) layout block) answer image after
+      → Refusing answer_said (block_rules (length image) layout block) answer image after
   pub format : (image : List ℕ) (layout : Layout) (answer : Formatted) (after : List ℕ) → Formats image layout answer after
       → FormatRefusing image layout answer after
   pub ask : (r : Record) (block : ℕ) (answer : Asked) → Asks r block answer → AskRefusing r block answer

@@ -15,8 +15,9 @@ use Rattle.sums.specs.Words.{lane}
 use Rattle.block.specs.Block.{ValidBlock, data_of, bits_changed, Near, SameRows, Fitting}
 use Rattle.layout.specs.declared.Layout.{Layout}
 use Rattle.layout.specs.Layout.{shape_of, rows_of}
-use Rattle.store.specs.declared.Answer.{Answer}
-use Rattle.store.specs.Answer.{answer_number, answer_said}
+use Rattle.store.specs.Answer.{Answer, Stored}
+use Rattle.store.specs.Answer.{answer_said}
+use Rattle.refusal.specs.Refusal.{answer_number}
 use Rattle.store.specs.Image.{stored_rows, Untouched}
 use Rattle.store.specs.Write.{Writes}
 use Rattle.store.specs.Read.{Reads}
@@ -128,7 +129,7 @@ pub record Demand2 : Type 0 where
       → Visits image layout block answer after
       → answer_number answer ≡ 0
       → Visiting image layout block answer after
-  pub write : (image : List ℕ) (layout : Layout) (block : ℕ) (list : List ℕ) (answer : Answer) (after : List ℕ) → Fitting list
+  pub write : (image : List ℕ) (layout : Layout) (block : ℕ) (list : List ℕ) (answer : Stored) (after : List ℕ) → Fitting list
       → Writes image layout block list answer after
       → answer_number answer ≡ 0
       → Writing image layout block list after

@@ -7,12 +7,13 @@
 -- Each is of all that the promises of ask, turn and read allow. Where the format was refused no ask is given a place and no read that names
 -- its layout is accepted, so b and c need not ask for it.
 -- Assumes nothing.
-use Rattle.std.specs.Prelude.{ℕ, ◌+◌, ◌^◌, ◌≤◌, ◌<◌, ◌≡◌, List, ◌∷◌, ◌++◌, length, get_or, replicate}
+use Rattle.std.specs.Prelude.{Result, ℕ, ◌+◌, ◌^◌, ◌≤◌, ◌<◌, ◌≡◌, List, ◌∷◌, ◌++◌, length, get_or, replicate}
+use Rattle.refusal.specs.declared.Refusal.{Refusal}
 use Rattle.layout.specs.declared.Layout.{Layout}
 use Rattle.layout.specs.Layout.{rows_of, words_of, blocks, index}
 use Rattle.layout.specs.Refusal.{image_refusal}
-use Rattle.store.specs.declared.Answer.{Answer}
-use Rattle.store.specs.Answer.{answer_number}
+use Rattle.store.specs.Answer.{Answer}
+use Rattle.refusal.specs.Refusal.{answer_number}
 use Rattle.store.specs.Read.{Reads}
 use Rattle.rota.specs.Numbers.{place_number, place_given}
 use Rattle.patrol.specs.declared.Report.{Report}
@@ -29,11 +30,11 @@ abbrev pub Names : ℕ → Seen → Type 0
 Names block seen = (seen.block ≡ block) × (seen.said.verdict ≡ 0 → ⊥)
 
 -- the report is of an accepted turn, and names the block as the patrol's
-abbrev pub PatrolVisits : ℕ → Report → Type 0
+abbrev pub PatrolVisits : ℕ → Result Report Refusal → Type 0
 PatrolVisits block report = (report_number report ≡ 0) × Names block (report_first report)
 
 -- the report is of an accepted turn, and names the block as that of the ask that was served
-abbrev pub AskVisits : ℕ → Report → Type 0
+abbrev pub AskVisits : ℕ → Result Report Refusal → Type 0
 AskVisits block report = (report_number report ≡ 0) × Names block (report_second report)
 
 -- the layout that a call names is this one

@@ -3,14 +3,14 @@
 use Rattle.std.specs.Prelude.{ℕ, ◌≡◌, List}
 use Rattle.ground.specs.Choice.{if_zero}
 use Rattle.layout.specs.declared.Layout.{Layout}
-use Rattle.store.specs.declared.Answer.{Answer}
-use Rattle.store.specs.Answer.{answer_number}
+use Rattle.store.specs.Answer.{Answer, Stored}
+use Rattle.refusal.specs.Refusal.{answer_number}
 use Rattle.store.specs.Write.{Writes}
 use Rattle.store.specs.Read.{Reads}
 use Rattle.store.specs.Visit.{Visits}
 use Rattle.rota.specs.Numbers.{place_number}
 use Rattle.patrol.specs.Numbers.{report_number}
-use Rattle.patrol.specs.declared.Formatted.{Formatted}
+use Rattle.patrol.specs.Handed.{Formatted}
 use Rattle.patrol.specs.declared.Asked.{Asked}
 use Rattle.patrol.specs.declared.Turned.{Turned}
 use Rattle.patrol.specs.Format.{Formats}
@@ -24,7 +24,7 @@ Allowed (format layout) number old new =
     (answer : Formatted) × Formats old.image layout answer new.image × (number ≡ answer.number)
     × (new.patrol ≡ if_zero number answer.back old.patrol)
 Allowed (write layout block list) number old new =
-    (answer : Answer) × Writes old.image layout block list answer new.image × (number ≡ answer_number answer) × (new.patrol ≡ old.patrol)
+    (answer : Stored) × Writes old.image layout block list answer new.image × (number ≡ answer_number answer) × (new.patrol ≡ old.patrol)
 Allowed (read layout block buffer) number old new =
     (answer : Answer) × (left : List ℕ) × Reads old.image layout block buffer answer new.image left × (number ≡ answer_number answer)
     × (new.patrol ≡ old.patrol)

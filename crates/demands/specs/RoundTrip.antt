@@ -7,18 +7,19 @@ use Rattle.layout.specs.declared.Layout.{Layout}
 use Rattle.layout.specs.Layout.{layout_of, rows_of, blocks}
 use Rattle.layout.specs.Reason.{image_rules}
 use Rattle.stored.specs.Stored.{complemented_image}
-use Rattle.file.specs.declared.Header.{Header}
-use Rattle.file.specs.declared.Written.{Written}
+use Rattle.refusal.specs.Refusal.{answer_number}
+use Rattle.file.specs.Header.{Header}
+use Rattle.file.specs.Written.{Written}
 use Rattle.file.specs.Bytes.{FittingBytes, bytes_of, version_in, layout_in, words_in}
-use Rattle.file.specs.Header.{header_number, header_layout, HeaderRead, ReadsFile}
-use Rattle.file.specs.Written.{written_number, written_bytes, WritesFile}
+use Rattle.file.specs.Header.{header_layout, HeaderRead, ReadsFile}
+use Rattle.file.specs.Written.{written_bytes, WritesFile}
 use Rattle.text.specs.Page.{end_to_end}
 use Rattle.report.specs.Report.{image_report, Inspects}
 use Rattle.demands.specs.Examples.{old_sample, new_sample}
 
 -- what reading a file may give, where it is accepted: a layout and an image
 pub data Read (bytes : List ℕ) : Layout → List ℕ → Type 0 where
-  whole : (header : Header) (lent kept image : List ℕ) → ReadsFile bytes lent header kept image → header_number header ≡ 0
+  whole : (header : Header) (lent kept image : List ℕ) → ReadsFile bytes lent header kept image → answer_number header ≡ 0
       → Read bytes (header_layout header) image
 
 -- the writer wrote this file of an image, and may have been lent more bytes
@@ -28,18 +29,18 @@ pub record Wrote (image : List ℕ) (layout : Layout) (file : List ℕ) : Type 0
   pub kept : List ℕ
   pub after : List ℕ
   pub promised : WritesFile image layout buffer answer kept after
-  pub accepted : written_number answer ≡ 0
+  pub accepted : answer_number answer ≡ 0
   pub file_is : file ≡ take (written_bytes answer) after
 
 -- from an image to its file and back: reading is accepted, and gives that shape, s and G, and the same image, word for word
 pub record Back (image : List ℕ) (layout : Layout) (file : List ℕ) : Type 0 where
-  pub header : (header : Header) → HeaderRead file header → (header_number header ≡ 0) × (header_layout header ≡ layout)
-  pub whole : (header : Header) (lent kept after : List ℕ) → length lent ≡ length image → ReadsFile file lent header kept after → header_number header ≡ 0
+  pub header : (header : Header) → HeaderRead file header → (answer_number header ≡ 0) × (header_layout header ≡ layout)
+  pub whole : (header : Header) (lent kept after : List ℕ) → length lent ≡ length image → ReadsFile file lent header kept after → answer_number header ≡ 0
   pub same : (named : Layout) (words : List ℕ) → Read file named words → (named ≡ layout) × (words ≡ image)
 
 -- what was read from a file is written, where there is room: accepted, a file of as many bytes, and the bytes past it stay
 pub record Rewritten (bytes buffer file : List ℕ) (answer : Written) (after : List ℕ) : Type 0 where
-  pub accepted : written_number answer ≡ 0
+  pub accepted : answer_number answer ≡ 0
   pub count : written_bytes answer ≡ length bytes
   pub is : take (length bytes) after ≡ file
   pub past : drop (length bytes) after ≡ drop (length bytes) buffer
@@ -74,13 +75,13 @@ pub record Printed (image : List ℕ) (layout : Layout) (file : List ℕ) : Type
 pub record Edge (shape most words bytes : ℕ) : Type 0 where
   pub exactly : (image buffer : List ℕ) (answer : Written) (kept after : List ℕ) → length image ≡ words → length buffer ≡ bytes
       → WritesFile image (layout_of shape 1 most) buffer answer kept after
-      → (written_number answer ≡ 0) × (written_bytes answer ≡ bytes)
+      → (answer_number answer ≡ 0) × (written_bytes answer ≡ bytes)
   pub shorter : (image buffer : List ℕ) (answer : Written) (kept after : List ℕ) → length image ≡ words → length buffer < bytes
       → WritesFile image (layout_of shape 1 most) buffer answer kept after
-      → written_number answer ≡ 12
+      → answer_number answer ≡ 12
   pub larger : (image buffer : List ℕ) (answer : Written) (kept after : List ℕ) → length image ≡ words + rows_of (layout_of shape 1 most)
       → WritesFile image (layout_of shape 1 (suc most)) buffer answer kept after
-      → written_number answer ≡ 11
+      → answer_number answer ≡ 11
 
 -- so many blocks of a shape go into a file, whatever s: above them, and only then, it is refused for its length
 abbrev pub Most : ℕ → ℕ → Type 0
@@ -88,7 +89,7 @@ Most shape most =
     (image : List ℕ) (layout : Layout) (buffer : List ℕ) (answer : Written) (kept after : List ℕ) → layout.shape ≡ shape
     → NoneOf (image_rules (length image) layout)
     → WritesFile image layout buffer answer kept after
-    → (written_number answer ≡ 11) ↔ (most < blocks layout)
+    → (answer_number answer ≡ 11) ↔ (most < blocks layout)
 
 -- ---- worked files
 
@@ -137,4 +138,4 @@ pub record FileRoundTrip : Type 0 where
   -- 4 comes before 11: an image that is too long, and of another length than its layout says
   pub length_first : (image buffer : List ℕ) (answer : Written) (kept after : List ℕ) → length image ≡ 8193
       → WritesFile image (layout_of 1 1 512) buffer answer kept after
-      → written_number answer ≡ 4
+      → answer_number answer ≡ 4

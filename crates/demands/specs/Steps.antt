@@ -1,11 +1,12 @@
 -- A list of steps: each is one of the six calls with its arguments, whatever they are, or one flip named by index and bit. Image and record
 -- go from step to step as values, and each call leaves what its promise says: `demands/proofs/Promised` proves it.
 -- A refused format leaves the record: the one of zeros that it gives is another, since it was handed none. Assumes nothing.
-use Rattle.std.specs.Prelude.{ℕ, suc, ◌^◌, cond, List, [], ◌∷◌, eqb, ltb, get_or, set}
+use Rattle.std.specs.Prelude.{Result, ℕ, suc, ◌^◌, cond, List, [], ◌∷◌, eqb, ltb, get_or, set}
 use Rattle.std.specs.Int.Bits.{bit_xor}
 use Rattle.ground.specs.Choice.{if_zero}
+use Rattle.refusal.specs.declared.Refusal.{Refusal}
 use Rattle.layout.specs.declared.Layout.{Layout}
-use Rattle.store.specs.Answer.{answer_number}
+use Rattle.refusal.specs.Refusal.{answer_number}
 use Rattle.store.specs.Fresh.{fresh_after}
 use Rattle.store.specs.Write.{write_answer, write_after}
 use Rattle.store.specs.Read.{read_answer}
@@ -61,7 +62,7 @@ after [] state = state
 after (step ∷ rest) state = after rest (step_after step state)
 
 -- the report of a turn
-abbrev pub report : State → Report
+abbrev pub report : State → Result Report Refusal
 report state = (turned state.patrol state.image).report
 
 -- the number that a call answers, which is 0 where it is accepted; a flip is no call

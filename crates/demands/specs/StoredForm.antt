@@ -12,14 +12,15 @@ use Rattle.stored.specs.Stored.{complemented, complemented_image}
 use Rattle.block.specs.Verdict.{Said}
 use Rattle.block.specs.declared.Verdict.TheVariants.{Lost}
 use Rattle.block.specs.Block.{Fitting}
-use Rattle.store.specs.declared.Answer.{Answer}
-use Rattle.store.specs.Answer.{answer_number, answer_said}
+use Rattle.store.specs.Answer.{Answer}
+use Rattle.store.specs.Answer.{answer_said}
+use Rattle.refusal.specs.Refusal.{answer_number}
 use Rattle.store.specs.Image.{stored_rows}
 use Rattle.store.specs.Read.{Reads}
 use Rattle.store.specs.Visit.{Visits}
 use Rattle.rota.specs.Line.{asks_of}
 use Rattle.patrol.specs.declared.Record.{Record}
-use Rattle.patrol.specs.declared.Formatted.{Formatted}
+use Rattle.patrol.specs.Handed.{Formatted}
 use Rattle.patrol.specs.declared.Turned.{Turned}
 use Rattle.patrol.specs.Format.{Formats}
 use Rattle.patrol.specs.Numbers.{report_number, report_first, report_second}

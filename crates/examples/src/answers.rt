@@ -1,9 +1,10 @@
 // What a call answers as words: its number, a report and a place.
-use crate::lists::scatter;
-use file::{Header, Written};
+ghost use Rattle.std.specs.Prelude.{◌+◌, ◌≤◌, length};
+
+use block::Verdict;
+use layout::Layout;
 use patrol::Report;
-use rota::Place;
-use store::Answer;
+use refusal::Refusal;
 use words::REPORT_WORDS;
 
 // The number stands first, then the report, or the layout of a file.
@@ -16,46 +17,38 @@ const PLACE_AT: usize = REPORT_AT + REPORT_WORDS;
 
 pub(crate) const ANSWER_WORDS: usize = PLACE_AT + 1;
 
-// The answer of a call that has a number and nothing else.
-pub(crate) fn of_number(number: u32) -> [u32; ANSWER_WORDS] {
-    let mut answer = [0u32; ANSWER_WORDS];
-    answer[0] = number;
-    answer
+// The answer of a call that has a number and nothing else, as format and write.
+pub(crate) fn of_done<T>(answer: &Result<T, Refusal>) -> [u32; ANSWER_WORDS] {
+    let mut words = [0u32; ANSWER_WORDS];
+    words[0] = words::number(answer);
+    words
 }
 
-// The answer of this number, with these words from `at` on.
-fn numbered(number: u32, at: usize, words: &[u32]) -> [u32; ANSWER_WORDS] {
-    let mut answer = of_number(number);
-    scatter(words, &mut answer, at, 1);
-    answer
+// The number of this answer, with these words from `at` on.
+fn numbered<T>(answer: &Result<T, Refusal>, at: usize, words: &[u32]) -> [u32; ANSWER_WORDS]
+    requires { at + length words.now ≤ ANSWER_WORDS }
+{
+    let mut all = of_done(answer);
+    all[at..at + words.len()].copy_from_slice(words);
+    all
 }
 
-// What write, read and visit answer.
-pub(crate) fn of_answer(answer: Answer) -> [u32; ANSWER_WORDS] {
-    let seen = words::answer_words(answer);
-    numbered(words::answer_number(answer), VERDICT_AT, &seen)
+// What read and visit answer.
+pub(crate) fn of_verdict(answer: Result<Verdict, Refusal>) -> [u32; ANSWER_WORDS] {
+    numbered(&answer, VERDICT_AT, &words::answer_words(answer))
 }
 
-// What an ask answers.
-pub(crate) fn of_place(place: Place) -> [u32; ANSWER_WORDS] {
-    let given = words::place_words(place);
-    numbered(words::place_number(place), PLACE_AT, &given)
+// What an ask answers, its place; and what the writer of a file does, its bytes.
+pub(crate) fn of_count(answer: Result<u32, Refusal>) -> [u32; ANSWER_WORDS] {
+    numbered(&answer, PLACE_AT, &words::count_words(answer))
 }
 
 // What a turn reports.
-pub(crate) fn of_report(report: Report) -> [u32; ANSWER_WORDS] {
-    let seen = words::report_words(report);
-    numbered(words::report_number(report), REPORT_AT, &seen)
+pub(crate) fn of_report(answer: Result<Report, Refusal>) -> [u32; ANSWER_WORDS] {
+    numbered(&answer, REPORT_AT, &words::report_words(answer))
 }
 
 // What a file's header says.
-pub(crate) fn of_header(header: Header) -> [u32; ANSWER_WORDS] {
-    let named = words::header_words(header);
-    numbered(words::header_number(header), REPORT_AT, &named)
-}
-
-// What the writer of a file answers: how many bytes stand where an ask has its place.
-pub(crate) fn of_written(written: Written) -> [u32; ANSWER_WORDS] {
-    let count = words::written_words(written);
-    numbered(words::written_number(written), PLACE_AT, &count)
+pub(crate) fn of_header(answer: Result<Layout, Refusal>) -> [u32; ANSWER_WORDS] {
+    numbered(&answer, REPORT_AT, &words::header_words(answer))
 }

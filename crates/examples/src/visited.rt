@@ -1,23 +1,13 @@
 // Worked examples 5 to 11, and a dead chip: what a visit finds, and what it leaves. Rows 1 and 2 are stored complemented.
-use crate::answers::of_answer;
-use crate::lists::same;
+use crate::rows::{ALL, NOT_ONE, alone};
 use block::Verdict;
-use layout::Layout;
-use store::Answer;
-
-const ALL: u32 = 0xFFFFFFFF;
-
-// 1, complemented.
-const NOT_ONE: u32 = 0xFFFFFFFE;
 
 // A block of shape 1 as format leaves it.
 const FRESH: [u32; 16] = [ALL, ALL, 0, 0, 0, 0, 0, 0, 0, 0, 0, 0, 0, 0, 0, 0];
 
 // Whether a visit of the only block of an image finds this verdict, and leaves these words.
 fn visit_leaves(image: &mut [u32], shape: u32, verdict: Verdict, after: &[u32]) -> bool {
-    let alone = Layout { shape, s: 1, g: 1 };
-    let answer = of_answer(store::visit(image, alone, 0));
-    same(&answer, &of_answer(Answer::Found(verdict))) & same(image, after)
+    store::visit(image, alone(shape), 0) == Ok(verdict) && &*image == after
 }
 
 // Whether a visit of this block of shape 1 mends so many bits and leaves these rows.
@@ -93,5 +83,5 @@ fn loses_all(word: u32) -> bool {
 
 // A dead chip, all zeros or all ones, in both shapes: lost 32 0, unchanged.
 pub(crate) fn dead_chip() -> bool {
-    loses([0; 16], 32) & loses([ALL; 16], 32) & loses_all(0) & loses_all(ALL)
+    loses([0; 16], 32) && loses([ALL; 16], 32) && loses_all(0) && loses_all(ALL)
 }

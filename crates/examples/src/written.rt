@@ -1,16 +1,10 @@
 // Worked examples 1 to 4 and 12: what a write stores, and where. Rows 1 and 2 are stored complemented.
-use crate::answers::of_answer;
-use crate::lists::{same, scatter};
+use crate::rows::{ALL, NOT_ONE, alone};
 use layout::Layout;
-use store::Answer;
-
-const ALL: u32 = 0xFFFFFFFF;
 
 const TOP: u32 = 0x80000000;
 
-// 1 and the topmost bit, complemented.
-const NOT_ONE: u32 = 0xFFFFFFFE;
-
+// The topmost bit, complemented.
 const NOT_TOP: u32 = 0x7FFFFFFF;
 
 // Whether a write of a block is accepted, and leaves these words of the image.
@@ -21,13 +15,7 @@ fn write_leaves(
     list: &[u32],
     after: &[u32],
 ) -> bool {
-    let answer = of_answer(store::write(image, layout, block, list));
-    same(&answer, &of_answer(Answer::Stored)) & same(image, after)
-}
-
-// The layout of one block.
-fn alone(shape: u32) -> Layout {
-    Layout { shape, s: 1, g: 1 }
+    store::write(image, layout, block, list) == Ok(()) && &*image == after
 }
 
 // Whether a write of the only block of an image of shape 1 leaves these rows.
@@ -59,7 +47,7 @@ pub(crate) fn example_3() -> bool {
     let mut large = [ALL; 72];
     large[0] = 0;
     large[1] = 0;
-    leaves_rows([ALL; 11], small) & write_leaves(&mut image, alone(2), 0, &[ALL; 64], &large)
+    leaves_rows([ALL; 11], small) && write_leaves(&mut image, alone(2), 0, &[ALL; 64], &large)
 }
 
 // Whether a write of shape 2 with data word 64 = 1 leaves these words of the image.
@@ -91,7 +79,10 @@ pub(crate) fn example_4() -> bool {
 pub(crate) fn example_12() -> bool {
     let mut image = [0u32; 864];
     let mut after = [0u32; 864];
-    scatter(&last_word_rows(), &mut after, 433, 6);
+    let places = after.iter_mut().skip(433).step_by(6);
+    for (word, row) in places.zip(last_word_rows()) {
+        *word = row;
+    }
     let layout = Layout {
         shape: 2,
         s: 6,

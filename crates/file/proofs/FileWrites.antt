@@ -1,30 +1,30 @@
--- The writer's answer by its numbers, so that its promise leaves one outcome; the outcomes that keep it; its refusals by their rules. Assumes nothing.
-use Prim.Native.Nat.{ℕ, zero, suc}
-use mathlib.Core.Path.{◌≡◌, refl, sym, ap, ◌∙◌}
+-- The outcomes that keep the promise of write_file, which leaves one; its refusals by their rules. Assumes nothing.
+use Prim.Native.Nat.{ℕ, zero, suc, ◌≤◌}
+use mathlib.Core.Path.{◌≡◌, refl, sym, ◌∙◌}
 use mathlib.Core.List.{List, [], ◌∷◌}
 use native.Mathlib.Omega.{arith}
 use lib.ListN.{length}
 use Rattle.ground.specs.Choice.{if_zero}
 use Rattle.ground.specs.Rules.{FirstOf}
 use Rattle.ground.proofs.Ladder.{Rung, rung_below, first_then, first_front}
-use Rattle.ground.proofs.Same.{same}
 use Rattle.layout.specs.declared.Layout.{Layout}
 use Rattle.layout.specs.Reason.{image_rules}
 use Rattle.layout.proofs.Ladder.{image_first}
-use Rattle.file.specs.declared.Written.{Written}
-use Rattle.file.specs.declared.Written.TheVariants.{Refused, Bytes}
+use Rattle.std.specs.Prelude.{Result, Ok, Err}
+use Rattle.ground.proofs.Choices.{refused_kept}
+use Rattle.refusal.specs.declared.Refusal.{Refusal}
+use Rattle.refusal.specs.Refusal.{number, numbered, answered}
+use Rattle.refusal.proofs.Answered.{number_some, answered_number}
+use Rattle.refusal.specs.Refusal.{answer_number}
+use Rattle.refusal.proofs.Answered.{answers_same}
+use Rattle.file.specs.Written.{Written}
+use Rattle.file.proofs.Headers.{told}
+use Rattle.file.proofs.Ladder.{write_known}
 use Rattle.file.specs.Bytes.{file_of, file_length, file_into}
 use Rattle.file.specs.Refusal.{long_rung, room_rung, write_refusal}
 use Rattle.file.specs.Reason.{too_long, no_room, write_rules}
-use Rattle.file.specs.Written.{written_number, written_bytes, WritesFile, write_answer}
+use Rattle.file.specs.Written.{written_bytes, WritesFile, write_answer}
 use Rattle.file.proofs.RoundTrip.{length_file}
-
--- number and bytes tell answers apart
-pub written_told : (a b : Written) → (a ≡ Refused 0 → ⊥) → (b ≡ Refused 0 → ⊥) → written_number a ≡ written_number b → written_bytes a ≡ written_bytes b → a ≡ b
-written_told (Refused m) (Refused n) p q e l = ap Refused e
-written_told (Refused m) (Bytes count) p q e l = absurd (p (ap Refused e))
-written_told (Bytes count) (Refused n) p q e l = absurd (q (ap Refused (sym e)))
-written_told (Bytes count) (Bytes other) p q e l = ap Bytes l
 
 module _ (image : List ℕ) (layout : Layout) (buffer : List ℕ) where
   abbrev refusal : ℕ
@@ -33,29 +33,35 @@ module _ (image : List ℕ) (layout : Layout) (buffer : List ℕ) where
   abbrev after : ℕ → List ℕ
   after number = if_zero number (file_into layout image buffer) buffer
 
-  pub writes_refused : (number : ℕ) → number ≡ refusal → (number ≡ 0 → ⊥) → WritesFile image layout buffer (Refused number) image buffer
-  writes_refused zero e ne = absurd (ne refl)
-  writes_refused (suc number) e ne =
-      record { number = e; bytes = rw (← e); keeps = refl; leaves = rw (← e); numbered = λ q. let z : suc number ≡ 0 = cc in omega arith }
+  pub writes_refused : (reason : Refusal) → number reason ≡ refusal → WritesFile image layout buffer (Err reason) image buffer
+  writes_refused reason e =
+      let some : refusal ≡ 0 → ⊥ = λ z. number_some reason (e ∙ z) in
+      record {
+        number = e;
+        bytes = sym (refused_kept refusal (length (file_of layout image)) 0 some);
+        keeps = refl;
+        leaves = sym (refused_kept refusal (file_into layout image buffer) buffer some);
+      }
 
   pub writes_bytes : (count : ℕ) (left : List ℕ) → refusal ≡ 0 → count ≡ length (file_of layout image) → left ≡ file_into layout image buffer
-      → WritesFile image layout buffer (Bytes count) image left
-  writes_bytes count left e n l =
-      record { number = sym e; bytes = n ∙ rw e; keeps = refl; leaves = l ∙ rw e; numbered = λ q. let z : ◌≡◌ {A = ℕ} 0 1 = cc in omega arith }
+      → WritesFile image layout buffer (Ok count) image left
+  writes_bytes count left e n l = record { number = sym e; bytes = n ∙ rw e; keeps = refl; leaves = l ∙ rw e }
 
   -- the answer by its definition, and what is left, meet the promise, and are what it leaves
   pub file_written : WritesFile image layout buffer (write_answer image layout buffer) image (after refusal)
   unfolding write_answer
   file_written = by refusal refl
     where
-      by : (n : ℕ) → n ≡ refusal → WritesFile image layout buffer (if_zero n (Bytes (length (file_of layout image))) (Refused n)) image (after n)
+      by : (n : ℕ) → n ≡ refusal → WritesFile image layout buffer (answered n (length (file_of layout image))) image (after n)
       by zero e = writes_bytes _ _ (sym e) refl refl
-      by (suc n) e = writes_refused (suc n) e (λ z. omega arith)
+      by (suc n) e =
+          let small : suc n ≤ 14 = rw e (write_known (length image) layout (length buffer)) in
+          writes_refused (numbered (suc n)) (answered_number (suc n) (length (file_of layout image)) small ∙ e)
 
-  pub file_answer : {answer : Written} {kept left : List ℕ} → WritesFile image layout buffer answer kept left → answer ≡ write_answer image layout buffer
-  file_answer {answer} w =
-      written_told answer (write_answer image layout buffer) w.numbered file_written.numbered (same w.number file_written.number)
-      (same w.bytes file_written.bytes)
+  pub file_answer : {answer : Result ℕ Refusal} {kept left : List ℕ} → WritesFile image layout buffer answer kept left
+      → answer ≡ write_answer image layout buffer
+  unfolding write_answer
+  file_answer {answer} w = told written_bytes refusal (length (file_of layout image)) 0 answer (λ given. refl) w.number w.bytes
 
   -- ---- the ladder is the first of its rules
 
@@ -71,3 +77,7 @@ module _ (image : List ℕ) (layout : Layout) (buffer : List ℕ) where
       first_then (image_rules (length image) layout) (too_long (file_of layout image) ∷ no_room (file_of layout image) buffer ∷ []) _ _ tt
       (image_first layout (length image))
       (first_front (too_long (file_of layout image)) (no_room (file_of layout image) buffer ∷ []) _ _ (λ z. omega arith) long_rung_lem room_rung_lem)
+
+-- what the writer answers is told apart by number and bytes
+pub written_told : (a b : Written) → answer_number a ≡ answer_number b → written_bytes a ≡ written_bytes b → a ≡ b
+written_told = answers_same written_bytes (λ count. refl)

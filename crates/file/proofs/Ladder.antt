@@ -1,7 +1,7 @@
 -- The refusals of a file: how the code's tests give them, and that each ladder is the first of its rules. Assumes nothing.
-use Prim.Native.Nat.{ℕ, zero, suc, ◌-◌, ◌*◌, ◌/◌, ◌%◌, ◌≤◌}
-use mathlib.Core.Bool.{not}
-use mathlib.Core.Path.{◌≡◌, refl, sym, ◌∙◌}
+use Prim.Native.Nat.{ℕ, ◌-◌, ◌*◌, ◌/◌, ◌%◌, ◌≤◌}
+use mathlib.Core.Bool.{Bool, not}
+use mathlib.Core.Path.{◌≡◌, sym, ◌∙◌}
 use mathlib.Core.List.{List, [], ◌∷◌, ◌++◌}
 use mathlib.Core.Logic.{◌⊎◌}
 use native.Mathlib.Decide.{ℕ_discrete}
@@ -11,17 +11,20 @@ use lib.Dec.{eqb}
 use lib.ListN.{length, length-drop}
 use Rattle.layout.specs.declared.Layout.{Layout}
 use Rattle.layout.specs.Layout.{rows_of, blocks}
-use Rattle.ground.specs.Ladder.{◌then◌}
+use Rattle.ground.specs.Ladder.{◌when◌else◌, ◌then◌}
 use Rattle.ground.specs.Rules.{Rule, FirstOf}
-use Rattle.ground.proofs.Ladder.{Rung, rung_test, rung_below, rung_neither, rung_passed, one_or_two, then_first, then_assoc, then_zero}
-use Rattle.ground.proofs.Ladder.{first_more, first_front, test_passed}
+use Rattle.ground.proofs.Ladder.{Rung, rung_test, rung_below, rung_neither, rung_passed, one_or_two, then_first, then_zero}
+use Rattle.ground.proofs.Ladder.{first_then, first_more, first_front, test_passed}
 use Rattle.layout.specs.Refusal.{layout_refusal, image_refusal}
 use Rattle.layout.specs.Reason.{layout_rules}
 use Rattle.layout.proofs.Ladder.{Geometry, geometry, layout_first}
-use Rattle.file.specs.declared.Header.TheVariants.{Refused, Image}
+use Rattle.std.specs.Prelude.{Ok}
+use Rattle.refusal.proofs.Answered.{rung_known, then_known, answered_accepted}
+use Rattle.layout.proofs.Ladder.{layout_known, image_known}
 use Rattle.file.specs.Header.{header_of}
 use Rattle.file.specs.Bytes.{version_in, field_in, layout_in}
-use Rattle.file.specs.Refusal.{long_rung, short_rung, version_rung, field_rung, body_rung, frame_refusal, body_refusal, file_refusal}
+use Rattle.file.specs.Refusal.{long_rung, short_rung, version_rung, field_rung, body_rung}
+use Rattle.file.specs.Refusal.{frame_refusal, body_refusal, file_refusal, read_refusal, write_refusal}
 use Rattle.file.specs.Reason.{too_long, too_short, bad_version, bad_field, bad_body, file_rules}
 
 -- ---- 4 by bytes and by words
@@ -66,6 +69,10 @@ framed bytes e =
       field = eqb-true (field_in bytes) (length bytes - 5) (not-false _ (test_passed 9 _ version.1));
     }
 
+-- a file with a frame has the nine bytes of a header
+pub nine_bytes : (bytes : List ℕ) → 0 ≡ frame_refusal bytes → 9 ≤ length bytes
+nine_bytes bytes passes = (framed bytes (sym passes)).least
+
 pub record Accepted (bytes : List ℕ) : Type 0 where
   pub frame : Framed bytes
   pub framed_whole : frame_refusal bytes ≡ 0
@@ -84,6 +91,10 @@ accepted bytes e =
       body = eqb-true (length bytes - 9) _ (not-false _ (test_passed 3 _ layout.1));
     }
 
+-- so has one that is accepted
+pub nine_accepted : (bytes : List ℕ) → 0 ≡ file_refusal bytes → 9 ≤ length bytes
+nine_accepted bytes passes = (accepted bytes (sym passes)).frame.least
+
 -- ---- each rung answers its number exactly for its reason, and the ladder the first that applies
 
 module _ (bytes : List ℕ) where
@@ -99,59 +110,67 @@ module _ (bytes : List ℕ) where
       (λ e q. eqb-false _ _ (not-true _ e) (sym (length-drop 9 bytes) ∙ q))
       (λ e r. r (length-drop 9 bytes ∙ eqb-true _ _ (not-false _ e)))
 
-  abbrev rules : List Rule
-  rules = layout_rules (layout_in bytes)
+  abbrev frame_rules : List Rule
+  frame_rules = too_long bytes ∷ too_short bytes ∷ bad_version bytes ∷ bad_field bytes ∷ []
 
-  abbrev layout : ℕ
-  layout = body_refusal (length bytes - 9) (layout_in bytes)
-
-  from_layout : FirstOf (rules ++ bad_body bytes ∷ []) layout
-  unfolding body_refusal
-  from_layout =
-      first_more rules (bad_body bytes) _ _ tt (layout_first (layout_in bytes)) body_rung_lem
-
-  from_field : FirstOf (bad_field bytes ∷ rules ++ bad_body bytes ∷ []) (field_rung (field_in bytes) (length bytes) then layout)
-  from_field = first_front (bad_field bytes) (rules ++ bad_body bytes ∷ []) _ layout (λ z. omega arith) field_rung_lem from_layout
-
-  from_version : FirstOf (bad_version bytes ∷ bad_field bytes ∷ rules ++ bad_body bytes ∷ [])
-      (version_rung (version_in bytes) then field_rung (field_in bytes) (length bytes) then layout)
-  from_version =
-      first_front (bad_version bytes) (bad_field bytes ∷ rules ++ bad_body bytes ∷ []) _ _ (λ z. omega arith)
-      (version_rung_lem bytes)
-      from_field
-
-  from_short : FirstOf (too_short bytes ∷ bad_version bytes ∷ bad_field bytes ∷ rules ++ bad_body bytes ∷ [])
-      (short_rung (length bytes) then version_rung (version_in bytes) then field_rung (field_in bytes) (length bytes) then layout)
-  from_short =
-      first_front (too_short bytes) (bad_version bytes ∷ bad_field bytes ∷ rules ++ bad_body bytes ∷ []) _ _ (λ z. omega arith)
+  frame_first : FirstOf frame_rules (frame_refusal bytes)
+  unfolding frame_refusal
+  frame_first =
+      let field = field_rung (field_in bytes) (length bytes) in
+      let version = version_rung (version_in bytes) then field in
+      first_front (too_long bytes) (too_short bytes ∷ bad_version bytes ∷ bad_field bytes ∷ []) _ (short_rung (length bytes) then version)
+      (λ z. omega arith)
+      (rung_below (too_long bytes) _ _ (λ l. l) (λ l. l))
+      (first_front (too_short bytes) (bad_version bytes ∷ bad_field bytes ∷ []) _ version (λ z. omega arith)
       (rung_below (too_short bytes) _ _ (λ l. l) (λ l. l))
-      from_version
+      (first_front (bad_version bytes) (bad_field bytes ∷ []) _ field (λ z. omega arith) (version_rung_lem bytes) field_rung_lem))
 
   pub file_first : FirstOf (file_rules bytes) (file_refusal bytes)
-  unfolding file_refusal frame_refusal
+  unfolding file_refusal body_refusal
   file_first =
-      rw (then_assoc (long_rung (length bytes)), then_assoc (short_rung (length bytes)), then_assoc (version_rung (version_in bytes)))
-      (first_front (too_long bytes) (too_short bytes ∷ bad_version bytes ∷ bad_field bytes ∷ rules ++ bad_body bytes ∷ []) _ _ (λ z. omega arith)
-      (rung_below (too_long bytes) _ _ (λ l. l) (λ l. l))
-      from_short)
+      let rules = layout_rules (layout_in bytes) in
+      first_then frame_rules (rules ++ bad_body bytes ∷ []) _ _ tt frame_first
+      (first_more rules (bad_body bytes) _ _ tt (layout_first (layout_in bytes)) body_rung_lem)
 
 -- ---- the header by its refusals
 
 module _ (bytes : List ℕ) where
-  pub frame_stands : (number : ℕ) → number ≡ frame_refusal bytes → (number ≡ 0 → ⊥) → file_refusal bytes ≡ number
+  pub frame_stands : (number : ℕ) → number ≡ frame_refusal bytes → (number ≡ 0 → ⊥) → number ≡ file_refusal bytes
   unfolding file_refusal
-  frame_stands number e ne = rw (← e) (then_first number _ ne)
+  frame_stands number e ne = rw (← e) (sym (then_first number _ ne))
 
   pub frame_passed : frame_refusal bytes ≡ 0
       → file_refusal bytes ≡ body_refusal (length bytes - 9) (layout_in bytes)
   unfolding file_refusal
   frame_passed e = rw e
 
-  pub header_refused : (number : ℕ) → file_refusal bytes ≡ number → (number ≡ 0 → ⊥) → Refused number ≡ header_of bytes
+  pub header_image : file_refusal bytes ≡ 0 → Ok (layout_in bytes) ≡ header_of bytes
   unfolding header_of
-  header_refused zero e ne = absurd (ne refl)
-  header_refused (suc number) e ne = rw e
+  header_image e = sym (answered_accepted (file_refusal bytes) (layout_in bytes) e)
 
-  pub header_image : file_refusal bytes ≡ 0 → Image (layout_in bytes) ≡ header_of bytes
-  unfolding header_of
-  header_image e = rw e
+-- ---- the numbers of the ladders are of the table
+
+rung : (n : ℕ) (test : Bool) → n ≤ 14 → (n when test else 0) ≤ 14
+rung n test small = rung_known n test 0 small (omega arith)
+
+frame_known : (bytes : List ℕ) → frame_refusal bytes ≤ 14
+unfolding frame_refusal
+frame_known bytes =
+    then_known _ _ (rung 11 _ (omega arith))
+    (then_known _ _ (rung 10 _ (omega arith))
+    (then_known _ _ (rung_known 9 _ _ (omega arith) (rung 9 _ (omega arith))) (rung 10 _ (omega arith))))
+
+pub file_known : (bytes : List ℕ) → file_refusal bytes ≤ 14
+unfolding file_refusal body_refusal
+file_known bytes =
+    then_known (frame_refusal bytes) _ (frame_known bytes)
+    (then_known (layout_refusal (layout_in bytes)) _ (layout_known (layout_in bytes)) (rung 4 _ (omega arith)))
+
+pub read_known : (bytes : List ℕ) (len : ℕ) → read_refusal bytes len ≤ 14
+unfolding read_refusal
+read_known bytes len = then_known (file_refusal bytes) _ (file_known bytes) (rung 4 _ (omega arith))
+
+pub write_known : (len : ℕ) (layout : Layout) (room : ℕ) → write_refusal len layout room ≤ 14
+unfolding write_refusal
+write_known len layout room =
+    then_known (image_refusal len layout) _ (image_known layout len) (then_known _ _ (rung 11 _ (omega arith)) (rung 12 _ (omega arith)))

@@ -1,3 +1,4 @@
+pub mod BigEndian
 pub mod Ladder
 pub mod Layouts
 pub mod RoundTrip

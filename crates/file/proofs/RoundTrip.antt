@@ -1,13 +1,14 @@
 -- What is read from the file of an image is that image, and the file of what was read is the file. Assumes nothing.
 use Prim.Native.Nat.{ℕ, zero, suc, ◌+◌, ◌-◌, ◌*◌, ◌/◌, ◌%◌, ◌≤◌, ◌<◌}
-use mathlib.Core.Path.{◌≡◌, refl, sym, ap, ap₂, ◌∙◌, fun_ext}
+use mathlib.Core.Path.{◌≡◌, refl, sym, ap, ap₂, ◌∙◌}
 use mathlib.Core.List.{List, [], ◌∷◌, ◌++◌}
 use native.Mathlib.Omega.{arith}
 use borrow.Author.Tests.{eq-eqb, le-ltb}
-use lib.ListN.{length, get_or, take, drop}
-use lib.Seq.{get_or-append-add}
+use lib.ListN.{length, get_or, take, drop, length-drop}
+use lib.Seq.{drop-append_seam}
+use Rattle.std.proofs.lemmas.List.{get_or-take, get_or-drop, take-append-drop, drop_all, drop-drop, length-take}
 use Rattle.ground.specs.Lists.{list_of}
-use Rattle.ground.proofs.Lists.{list_is}
+use Rattle.ground.proofs.Lists.{list_is, list_of_same}
 use Rattle.ground.specs.Ladder.{◌then◌}
 use Rattle.layout.specs.declared.Layout.{Layout}
 use Rattle.layout.specs.Layout.{layout_of}
@@ -15,6 +16,7 @@ use Rattle.layout.specs.Refusal.{image_refusal}
 use Rattle.file.specs.BigEndian.{pair_of, pair_bytes, word_of, word_bytes, word_at}
 use Rattle.file.specs.Bytes.{FittingBytes, bytes_of, head_of, file_of, file_length, version_in, field_in, layout_in, word_count, word_in, words_in, image_in}
 use Rattle.file.specs.Refusal.{long_rung, frame_refusal, body_refusal, file_refusal}
+use Rattle.file.proofs.BigEndian.{word_dropped}
 use Rattle.file.proofs.Ladder.{Accepted, accepted, body_words}
 use Rattle.file.proofs.Layouts.{length_words}
 
@@ -43,12 +45,7 @@ word_bytes_lem a b c d hb hc hd =
 -- a word past the front of a list
 word_past : (front rest : List ℕ) (n : ℕ) → word_at (front ++ rest) (length front + n) ≡ word_at rest n
 word_past front rest n =
-    let size = length front in
-    let one : size + n + 1 ≡ size + (n + 1) = omega arith in
-    let two : size + n + 2 ≡ size + (n + 2) = omega arith in
-    let three : size + n + 3 ≡ size + (n + 3) = omega arith in
-    let past : (k : ℕ) → get_or (front ++ rest) (size + k) 0 ≡ get_or rest k 0 = λ k. get_or-append-add front rest k 0 in
-    rw (one, two, three, past n, past (n + 1), past (n + 2), past (n + 3))
+    sym (word_dropped (length front) (front ++ rest) n) ∙ ap (λ (l : List ℕ). word_at l n) (drop-append_seam front rest)
 
 -- ---- from an image to its file and back
 
@@ -121,72 +118,58 @@ module _ (layout : Layout) (words : List ℕ) where
 
 -- ---- from a file to its image and back
 
-bytes_back : (n : ℕ) (bytes : List ℕ) → FittingBytes bytes → length bytes ≡ 4 * n → bytes_of (list_of n (λ k. word_at bytes (4 * k))) ≡ bytes
-unfolding bytes_of list_of
-bytes_back zero [] small e = refl
-bytes_back zero (a ∷ bytes) small e = absurd (omega arith)
-bytes_back (suc n) [] small e = absurd (omega arith)
-bytes_back (suc n) (a ∷ []) small e = absurd (omega arith)
-bytes_back (suc n) (a ∷ b ∷ []) small e = absurd (omega arith)
-bytes_back (suc n) (a ∷ b ∷ c ∷ []) small e = absurd (omega arith)
-bytes_back (suc n) (a ∷ b ∷ c ∷ d ∷ bytes) small e =
-    ap₂ (λ (word rest : List ℕ). word ++ rest) (word_bytes_lem a b c d (small 1) (small 2) (small 3))
-    (ap (λ (f : ℕ → ℕ). bytes_of (list_of n f)) (fun_ext shifted) ∙ bytes_back n bytes (λ i. small (suc (suc (suc (suc i))))) (omega arith))
-  where
-    shifted : (k : ℕ) → word_at (a ∷ b ∷ c ∷ d ∷ bytes) (4 * suc k) ≡ word_at bytes (4 * k)
-    shifted k =
-        let next : 4 * suc k ≡ 4 + 4 * k = omega arith in
-        ap (word_at (a ∷ b ∷ c ∷ d ∷ bytes)) next ∙ word_past (a ∷ b ∷ c ∷ d ∷ []) bytes (4 * k)
+-- bytes from a place on, one by one
+taken : (bytes : List ℕ) (at n : ℕ) → at + n ≤ length bytes → take n (drop at bytes) ≡ list_of n (λ k. get_or bytes (at + k) 0)
+taken bytes at n h =
+    list_is n (take n (drop at bytes)) _ (omega (arith, length-take {A = ℕ}, length-drop {A = ℕ}))
+    (λ k l. get_or-take n (drop at bytes) k 0 l ∙ get_or-drop at bytes k 0)
 
--- a file of at least nine bytes
-data Headed : List ℕ → Type 0 where
-  headed : (a b c d e f g h i : ℕ) (rest : List ℕ) → Headed (a ∷ b ∷ c ∷ d ∷ e ∷ f ∷ g ∷ h ∷ i ∷ rest)
+module _ (bytes : List ℕ) (small : FittingBytes bytes) where
+  word_again : (at : ℕ) → at + 4 ≤ length bytes → word_bytes (word_at bytes at) ≡ take 4 (drop at bytes)
+  unfolding list_of
+  word_again at h =
+      let zeroth : at ≡ at + 0 = omega arith in
+      rw (taken bytes at 4 h, ← zeroth) (word_bytes_lem (get_or bytes at 0) _ _ _ (small (at + 1)) (small (at + 2)) (small (at + 3)))
 
-head_of_lem : (bytes : List ℕ) → 9 ≤ length bytes → Headed bytes
-head_of_lem [] l = absurd (omega arith)
-head_of_lem (a ∷ []) l = absurd (omega arith)
-head_of_lem (a ∷ b ∷ []) l = absurd (omega arith)
-head_of_lem (a ∷ b ∷ c ∷ []) l = absurd (omega arith)
-head_of_lem (a ∷ b ∷ c ∷ d ∷ []) l = absurd (omega arith)
-head_of_lem (a ∷ b ∷ c ∷ d ∷ e ∷ []) l = absurd (omega arith)
-head_of_lem (a ∷ b ∷ c ∷ d ∷ e ∷ f ∷ []) l = absurd (omega arith)
-head_of_lem (a ∷ b ∷ c ∷ d ∷ e ∷ f ∷ g ∷ []) l = absurd (omega arith)
-head_of_lem (a ∷ b ∷ c ∷ d ∷ e ∷ f ∷ g ∷ h ∷ []) l = absurd (omega arith)
-head_of_lem (a ∷ b ∷ c ∷ d ∷ e ∷ f ∷ g ∷ h ∷ i ∷ rest) l = headed a b c d e f g h i rest
+  words_again : (n at : ℕ) → length bytes ≡ at + 4 * n → bytes_of (list_of n (λ k. word_at bytes (at + 4 * k))) ≡ drop at bytes
+  unfolding bytes_of list_of
+  words_again zero at e = sym (drop_all at bytes (omega arith))
+  words_again (suc n) at e =
+      let zeroth : at + 4 * 0 ≡ at = omega arith in
+      let rest : list_of n (λ k. word_at bytes (at + 4 * suc k)) ≡ list_of n (λ k. word_at bytes (at + 4 + 4 * k)) =
+      list_of_same n _ _ (λ k h. let next : at + 4 * suc k ≡ at + 4 + 4 * k = omega arith in ap (word_at bytes) next) in
+      rw (zeroth, rest)
+      (ap₂ ◌++◌ (word_again at (omega arith)) (words_again n (at + 4) (omega arith) ∙ sym (drop-drop 4 at bytes))
+      ∙ take-append-drop 4 (drop at bytes))
 
--- the header that is written of what was read is that of the file, but for the version; and so are the words
-head_again : (bytes : List ℕ) → FittingBytes bytes → Accepted bytes → Headed bytes → (count : ℕ) → count ≡ word_count (length bytes)
-    → head_of (layout_in bytes) count ≡ 2 ∷ take 8 (drop 1 bytes)
-head_again bytes small ok (headed a b c d e f g h i rest) count is =
-    let field : 4 + 4 * count ≡ word_of b c d e = omega (arith, is, ok.body, ok.frame.field) in
-    ap₂ (λ (field groups : List ℕ). 2 ∷ field ++ f ∷ g ∷ groups)
-    (ap word_bytes field ∙ word_bytes_lem b c d e (small 2) (small 3) (small 4))
-    (pair_bytes_lem h i (small 8))
+  -- the header that is written of what was read is that of the file, but for the version
+  head_again : Accepted bytes → (count : ℕ) → count ≡ word_count (length bytes) → head_of (layout_in bytes) count ≡ 2 ∷ take 8 (drop 1 bytes)
+  unfolding list_of
+  head_again ok count is =
+      let field : 4 + 4 * count ≡ field_in bytes = omega (arith, is, ok.body, ok.frame.field) in
+      let all : 1 + 8 ≤ length bytes = ok.frame.least in
+      rw (field, taken bytes 1 8 all)
+      (ap₂ (λ (field groups : List ℕ). 2 ∷ field ++ get_or bytes 5 0 ∷ get_or bytes 6 0 ∷ groups)
+      (word_bytes_lem (get_or bytes 1 0) _ _ _ (small 2) (small 3) (small 4))
+      (pair_bytes_lem (get_or bytes 7 0) _ (small 8)))
 
-words_again : (bytes : List ℕ) → FittingBytes bytes → Accepted bytes → Headed bytes → bytes_of (words_in bytes) ≡ drop 9 bytes
-unfolding words_in
-words_again bytes small ok (headed a b c d e f g h i rest) =
-    let count = word_count (length bytes) in
-    let size : length rest ≡ 4 * count = omega (arith, ok.body) in
-    ap (λ (word : ℕ → ℕ). bytes_of (list_of count word)) (fun_ext (λ k. word_past (a ∷ b ∷ c ∷ d ∷ e ∷ f ∷ g ∷ h ∷ i ∷ []) rest (4 * k)))
-    ∙ bytes_back count rest (λ k. small (suc (suc (suc (suc (suc (suc (suc (suc (suc k)))))))))) size
-
-in_two : (bytes : List ℕ) → Headed bytes → version_in bytes ≡ 2 → (2 ∷ take 8 (drop 1 bytes)) ++ drop 9 bytes ≡ bytes
-in_two bytes (headed a b c d e f g h i rest) version = ap (λ (v : ℕ). v ∷ b ∷ c ∷ d ∷ e ∷ f ∷ g ∷ h ∷ i ∷ rest) (sym version)
+in_two : (bytes : List ℕ) → version_in bytes ≡ 2 → (2 ∷ take 8 (drop 1 bytes)) ++ drop 9 bytes ≡ bytes
+in_two [] version = absurd (omega arith)
+in_two (v ∷ rest) version = ap₂ (λ (v : ℕ) (l : List ℕ). v ∷ l) (sym version) (take-append-drop 8 rest)
 
 module _ (bytes : List ℕ) (small : FittingBytes bytes) (e : file_refusal bytes ≡ 0) where
-  abbrev whole : Headed bytes
-  whole = head_of_lem bytes (accepted bytes e).frame.least
-
   -- the file of an image of as many words as were read: the header again, with version 2
   pub file_renewed : (image : List ℕ) → length image ≡ word_count (length bytes)
       → file_of (layout_in bytes) image ≡ (2 ∷ take 8 (drop 1 bytes)) ++ bytes_of image
   unfolding file_of
-  file_renewed image size = ap (λ (head : List ℕ). head ++ bytes_of image) (head_again bytes small (accepted bytes e) whole (length image) size)
+  file_renewed image size = ap (λ (head : List ℕ). head ++ bytes_of image) (head_again bytes small (accepted bytes e) (length image) size)
 
   -- the file of what was read from a file of version 2 is that file
   pub file_back : version_in bytes ≡ 2 → file_of (layout_in bytes) (words_in bytes) ≡ bytes
+  unfolding words_in
   file_back version =
+      let ok = accepted bytes e in
+      let words = words_again bytes small (word_count (length bytes)) 9 (omega (arith, ok.body, ok.frame.least)) in
       file_renewed (words_in bytes) (length_words bytes)
-      ∙ ap (λ (words : List ℕ). (2 ∷ take 8 (drop 1 bytes)) ++ words) (words_again bytes small (accepted bytes e) whole)
-      ∙ in_two bytes whole version
+      ∙ ap (λ (words : List ℕ). (2 ∷ take 8 (drop 1 bytes)) ++ words) words
+      ∙ in_two bytes version

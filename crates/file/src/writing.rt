@@ -1,58 +1,43 @@
 // The file of an image, written to lent bytes.
-ghost use Rattle.std.specs.Prelude.{◌≡◌, ◌+◌, ◌*◌, ◌≤◌, ◌<◌, length};
-ghost use Rattle.ground.specs.Stores.{stores};
-ghost use Rattle.file.specs.Inner.{Small, head_byte, body_byte, with_word};
+ghost use Rattle.std.specs.Prelude.{◌≡◌, ◌+◌, ◌*◌, ◌≤◌, ◌++◌, length, take, drop};
+ghost use Rattle.file.specs.Bytes.{bytes_of, head_of};
+ghost use Rattle.file.specs.Inner.{Small};
 ghost use Rattle.file.specs.Written.{WritesFile};
 
-use super::Written;
 use super::refusals::{VERSION, check_written};
 use layout::Layout;
-
-// Puts the four bytes of a word at a place.
-fn put_word(word: u32, bytes: &mut [u8], at: usize)
-    requires { at + 3 < length bytes.old }
-    ensures { bytes.new ≡ with_word word bytes.old at }
-{
-    bytes[at] = (word / 16777216) as u8;
-    bytes[at + 1] = (word / 65536 % 256) as u8;
-    bytes[at + 2] = (word / 256 % 256) as u8;
-    bytes[at + 3] = (word % 256) as u8;
-}
+use refusal::Refusal;
 
 // Puts the header of a file of so many words.
 fn put_header(layout: Layout, words: usize, bytes: &mut [u8])
     requires { Small layout words (length bytes.old) }
-    ensures { bytes.new ≡ stores bytes.old (λ k. k) (head_byte layout words) 9 }
+    ensures { bytes.new ≡ head_of layout words ++ drop 9 bytes.old }
 {
     bytes[0] = VERSION;
-    put_word((4 + 4 * words) as u32, bytes, 1);
-    // Shape, s and the two bytes of G are the four bytes of one word.
-    put_word(
-        layout.shape * 16777216 + layout.s * 65536 + layout.g,
-        bytes,
-        5,
-    );
+    bytes[1..5].copy_from_slice(&((4 + 4 * words) as u32).to_be_bytes());
+    bytes[5] = layout.shape as u8;
+    bytes[6] = layout.s as u8;
+    bytes[7..9].copy_from_slice(&(layout.g as u16).to_be_bytes());
 }
 
-// Puts the words after the header.
+// Puts the words one after another.
 fn put_words(image: &[u32], bytes: &mut [u8])
-    requires { 9 + 4 * length image.now ≤ length bytes.old }
-    ensures { bytes.new ≡ stores bytes.old (λ k. 9 + k) (body_byte image.now) (4 * length image.now) }
+    requires { 4 * length image.now ≤ length bytes.old }
+    ensures { bytes.new ≡ bytes_of image.now ++ drop (4 * length image.now) bytes.old }
 {
-    for k in 0..image.len() {
-        put_word(image[k], bytes, 9 + 4 * k);
+    // `bytes.chunks_exact_mut(4).zip(image)` was tried: a proof knows nothing of the bytes after it.
+    for (k, word) in image.iter().enumerate() {
+        bytes[4 * k..4 * k + 4].copy_from_slice(&word.to_be_bytes());
     }
 }
 
-// Writes the image as a file from byte 0 of the buffer on.
-pub fn write_file(image: &[u32], layout: Layout, buffer: &mut [u8]) -> Written
+// Writes the image as a file from byte 0 of the buffer on, and answers how many bytes the file has.
+#[tactic(auto, using(crate::proofs::Put::small))]
+pub fn write_file(image: &[u32], layout: Layout, buffer: &mut [u8]) -> Result<u32, Refusal>
     ensures { WritesFile image.now layout buffer.old result image.now buffer.new }
 {
-    let refused = check_written(image.len(), layout, buffer.len());
-    if refused != 0 {
-        return Written::Refused(refused);
-    }
+    check_written(image.len(), layout, buffer.len())?;
     put_header(layout, image.len(), buffer);
-    put_words(image, buffer);
-    Written::Bytes((9 + 4 * image.len()) as u32)
+    put_words(image, &mut buffer[9..]);
+    Ok((9 + 4 * image.len()) as u32)
 }

@@ -17,8 +17,8 @@ pub fn foldgrebe_file_write(
         image.now buffer.new written.new }
 {
     let answer = file::write_file(image, Layout { shape, s, g }, buffer);
-    *written = words::written_words(answer);
-    words::written_number(answer)
+    *written = words::count_words(answer);
+    words::number(&answer)
 }
 
 pub fn foldgrebe_file_layout(bytes: &[u8], layout: &mut [u32; LAYOUT_WORDS]) -> u32
@@ -26,7 +26,7 @@ pub fn foldgrebe_file_layout(bytes: &[u8], layout: &mut [u32; LAYOUT_WORDS]) -> 
 {
     let said = file::read_header(bytes);
     *layout = words::header_words(said);
-    words::header_number(said)
+    words::number(&said)
 }
 
 pub fn foldgrebe_file_read(bytes: &[u8], image: &mut [u32], layout: &mut [u32; LAYOUT_WORDS]) -> u32
@@ -35,5 +35,5 @@ pub fn foldgrebe_file_read(bytes: &[u8], image: &mut [u32], layout: &mut [u32; L
 {
     let header = file::read_file(bytes, image);
     *layout = words::header_words(header);
-    words::header_number(header)
+    words::number(&header)
 }

@@ -16,17 +16,17 @@ pub fn foldgrebe_format(
 {
     let answer = patrol::format(image, Layout { shape, s, g });
     *record = words::record_words(answer.back);
-    answer.number
+    words::number(&answer.done)
 }
 
+// The record is taken in and put back around the call, as in a turn: a helper with a closure would be no plainer.
 pub fn foldgrebe_ask(record: &mut [u32; RECORD_WORDS], block: u32, place: &mut [u32; 1]) -> u32
     ensures { AskCall «record».old block result «record».new place.new }
 {
     let answer = words::record_of(*record).ask(block);
-    let got = answer.place;
     *record = words::record_words(answer.back);
-    *place = words::place_words(got);
-    words::place_number(got)
+    *place = words::count_words(answer.place);
+    words::number(&answer.place)
 }
 
 pub fn foldgrebe_turn(
@@ -37,8 +37,7 @@ pub fn foldgrebe_turn(
     ensures { TurnCall «record».old image.old result «record».new image.new report.new }
 {
     let answer = words::record_of(*record).turn(image);
-    let said = answer.report;
     *record = words::record_words(answer.back);
-    *report = words::report_words(said);
-    words::report_number(said)
+    *report = words::report_words(answer.report);
+    words::number(&answer.report)
 }

@@ -15,7 +15,7 @@ pub fn foldgrebe_write(
 ) -> u32
     ensures { WriteCall image.old (layout_of shape s g) block list.now result image.new }
 {
-    words::answer_number(store::write(image, Layout { shape, s, g }, block, list))
+    words::number(&store::write(image, Layout { shape, s, g }, block, list))
 }
 
 pub fn foldgrebe_read(
@@ -32,7 +32,7 @@ pub fn foldgrebe_read(
 {
     let answer = store::read(image, Layout { shape, s, g }, block, buffer);
     *verdict = words::answer_words(answer);
-    words::answer_number(answer)
+    words::number(&answer)
 }
 
 pub fn foldgrebe_visit(
@@ -47,5 +47,5 @@ pub fn foldgrebe_visit(
 {
     let answer = store::visit(image, Layout { shape, s, g }, block);
     *verdict = words::answer_words(answer);
-    words::answer_number(answer)
+    words::number(&answer)
 }

@@ -7,5 +7,5 @@ ghost use Rattle.ground.specs.Least.{IsLeast};
 pub fn least(a: usize, b: usize) -> usize
     ensures { IsLeast a b result }
 {
-    if a < b { a } else { b }
+    a.min(b)
 }

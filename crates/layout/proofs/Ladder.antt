@@ -1,7 +1,7 @@
 -- Each rung answers its number exactly for its reason, and each ladder the first that applies; what holds where nothing is refused.
 -- Assumes nothing.
 use Prim.Native.Nat.{ℕ, zero, suc, ◌*◌, ◌≤◌, ◌<◌}
-use mathlib.Core.Bool.{not}
+use mathlib.Core.Bool.{Bool, not}
 use mathlib.Core.Path.{◌≡◌, refl, sym, ◌∙◌}
 use mathlib.Core.List.{[], ◌∷◌}
 use mathlib.Core.Logic.{◌⊎◌, inl, inr, ⊎_elim}
@@ -10,9 +10,11 @@ use native.Mathlib.Omega.{arith}
 use borrow.Author.Tests.{eq-eqb, ne_eqb, eqb-false, eqb-true, ltb-false, ltb-true, leb-false, leb-true, lt-leb, not-false, not-true}
 use lib.Dec.{ltb, leb, eqb}
 use Rattle.shape.proofs.Sizes.{rows_fit}
+use Rattle.ground.specs.Ladder.{◌when◌else◌}
 use Rattle.ground.specs.Rules.{FirstOf}
 use Rattle.ground.proofs.Ladder.{Rung, rung_test, rung_tests, rung_neither, rung_passed, then_assoc, then_zero, first_more}
 use Rattle.ground.proofs.Ladder.{not_zero, not_above, one_or_two, not_other}
+use Rattle.refusal.proofs.Answered.{rung_known, then_known}
 use Rattle.layout.specs.declared.Layout.{Layout}
 use Rattle.layout.specs.Layout.{shape_of, rows_of, blocks}
 use Rattle.layout.specs.Refusal.{shape_rung, interleave_rung, groups_rung, length_rung, block_rung, layout_refusal, image_refusal, block_refusal}
@@ -128,6 +130,22 @@ module _ (layout : Layout) where
   pub block_accepted : (len block : ℕ) → image_refusal len layout ≡ 0 → block < blocks layout → block_refusal len layout block ≡ 0
   unfolding block_refusal
   block_accepted len block e h = rw (e, lt-leb (blocks layout) block h)
+
+  -- ---- each ladder's number is one of the table's
+
+  pub layout_known : layout_refusal layout ≤ 14
+  unfolding layout_refusal
+  layout_known =
+      let two_rungs = λ (n : ℕ) (small : n ≤ 14) (t u : Bool). rung_known n t (n when u else 0) small (rung_known n u 0 small (omega arith)) in
+      then_known _ _ (two_rungs 1 (omega arith) _ _) (then_known _ _ (two_rungs 2 (omega arith) _ _) (two_rungs 3 (omega arith) _ _))
+
+  pub image_known : (len : ℕ) → image_refusal len layout ≤ 14
+  unfolding image_refusal
+  image_known len = then_known _ _ layout_known (rung_known 4 _ 0 (omega arith) (omega arith))
+
+  pub block_known : (len block : ℕ) → block_refusal len layout block ≤ 14
+  unfolding block_refusal
+  block_known len block = then_known _ _ (image_known len) (rung_known 6 _ 0 (omega arith) (omega arith))
 
   -- ---- each ladder is the first of its rules
 

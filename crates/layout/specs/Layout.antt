@@ -4,6 +4,7 @@
 use Rattle.std.specs.Prelude.{ℕ, suc, ◌+◌, ◌-◌, ◌*◌, ◌/◌, ◌%◌, cond, ◌≡◌, eqb}
 use Rattle.shape.specs.declared.Shape.{Shape}
 use Rattle.shape.specs.declared.Shape.TheVariants.{One, Two}
+pub use Rattle.shape.specs.Shape.{shape_number}
 use Rattle.shape.specs.Shape.{rows, words}
 use Rattle.layout.specs.declared.Layout.{Layout}
 
@@ -14,10 +15,6 @@ layout_of shape s g = record { shape = shape; s = s; g = g }
 -- the shape with a number; a number that is no shape's is refused before anything asks for its shape
 unfoldable pub shape_numbered : ℕ → Shape
 shape_numbered number = cond (eqb number 1) One Two
-
-abbrev pub shape_number : Shape → ℕ
-shape_number One = 1
-shape_number Two = 2
 
 abbrev pub shape_of : Layout → Shape
 shape_of layout = shape_numbered layout.shape

@@ -1,6 +1,8 @@
 -- The refusals 1 to 4 and 6, each a rung that answers its number where it applies and else 0. The first that applies wins. Assumes nothing.
-use Rattle.std.specs.Prelude.{ℕ, ◌*◌, not, ◌≡◌, ltb, leb, eqb}
+use Rattle.std.specs.Prelude.{ℕ, ◌*◌, not, ◌≡◌, ltb, leb, eqb, Result}
 use Rattle.ground.specs.Ladder.{◌when◌else◌, ◌then◌}
+use Rattle.refusal.specs.declared.Refusal.{Refusal}
+use Rattle.refusal.specs.Refusal.{answer_number}
 use Rattle.layout.specs.declared.Layout.{Layout}
 use Rattle.layout.specs.Layout.{rows_of, blocks}
 
@@ -36,9 +38,9 @@ image_refusal len layout = layout_refusal layout then length_rung len layout
 unfoldable pub block_refusal : ℕ → Layout → ℕ → ℕ
 block_refusal len layout block = image_refusal len layout then block_rung layout block
 
--- the promises of check and check_image: the first that applies, and 0 where none does
-abbrev pub Checks : Layout → ℕ → Type 0
-Checks layout number = number ≡ layout_refusal layout
+-- the promises of check and check_image: the refusal is the first that applies, and the call is accepted where none does
+abbrev pub Checks : Layout → Result (Unit {0}) Refusal → Type 0
+Checks layout answer = answer_number answer ≡ layout_refusal layout
 
-abbrev pub ChecksImage : ℕ → Layout → ℕ → Type 0
-ChecksImage len layout number = number ≡ image_refusal len layout
+abbrev pub ChecksImage : ℕ → Layout → Result (Unit {0}) Refusal → Type 0
+ChecksImage len layout answer = answer_number answer ≡ image_refusal len layout

@@ -7,19 +7,18 @@ mod sizes;
 
 use shape::Shape;
 
-// The number of the shape, the interleave s, and the group count G.
-#[derive(Clone, Copy)]
+// The number of the shape, the interleave s, and the group count G: any numbers, as a record from C may hold them.
+#[derive(Clone, Copy, Debug, Default, PartialEq, Eq)]
 pub struct Layout {
     pub shape: u32,
     pub s: u32,
     pub g: u32,
 }
 
-// Where a block lies, or why it lies nowhere.
-#[derive(Clone, Copy)]
-pub enum Site {
-    // The number of the refusal.
-    Nowhere(u32),
-    // The shape, and the index of the first row.
-    At(Shape, usize),
+// Where the rows of a block lie: at `at`, `at + s`, `at + 2 s` and so on.
+#[derive(Clone, Copy, Debug, PartialEq, Eq)]
+pub struct Site {
+    pub shape: Shape,
+    pub at: u32,
+    pub s: u32,
 }

@@ -2,29 +2,27 @@
 ghost use Rattle.layout.specs.Site.{Locates};
 
 use super::{Layout, Site};
+use refusal::Refusal;
 use shape::rows;
 
 impl Layout {
-    // Refusals 1 to 4 and 6, and then the index of the block's first row.
-    pub fn locate(self, len: usize, block: u32) -> Site
+    // Refusals 1 to 4 and 6, and then where the block's rows lie.
+    pub fn locate(self, len: usize, block: u32) -> Result<Site, Refusal>
         ensures { Locates len self block result }
     {
-        let number = self.check_image(len);
-        if number != 0 {
-            return Site::Nowhere(number);
-        }
-        let whole = block as usize;
-        if self.blocks() <= whole {
-            return Site::Nowhere(6);
+        self.check_image(len)?;
+        if self.blocks() <= block as usize {
+            return Err(Refusal::NoBlock);
         }
         let shape = self.shape_of();
-        let height = rows(shape);
+        let height = rows(shape) as u32;
         let s = self.s;
         // Without interleave no division is wanted.
-        if s == 1 {
-            return Site::At(shape, height * whole);
-        }
-        let within = whole % (s as usize);
-        Site::At(shape, height * (whole - within) + within)
+        let within = if s == 1 { 0 } else { block % s };
+        Ok(Site {
+            shape,
+            at: height * (block - within) + within,
+            s,
+        })
     }
 }

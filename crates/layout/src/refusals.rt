@@ -2,48 +2,32 @@
 ghost use Rattle.layout.specs.Refusal.{Checks, ChecksImage};
 
 use super::Layout;
-use shape::rows;
+use refusal::Refusal;
+use shape::{Shape, rows};
 
 impl Layout {
     // Refusals 1, 2 and 3: shape, interleave and groups.
-    pub fn check(self) -> u32
+    pub fn check(self) -> Result<(), Refusal>
         ensures { Checks self result }
     {
-        let shape = self.shape;
-        let s = self.s;
-        if shape == 0 {
-            return 1;
+        Shape::try_from(self.shape)?;
+        if !(1..=16).contains(&self.s) {
+            return Err(Refusal::BadInterleave);
         }
-        if 2 < shape {
-            return 1;
+        if !(1..=4096).contains(&self.blocks()) {
+            return Err(Refusal::BadGroups);
         }
-        if s == 0 {
-            return 2;
-        }
-        if 16 < s {
-            return 2;
-        }
-        let n = self.blocks();
-        if n == 0 {
-            return 3;
-        }
-        if 4096 < n {
-            return 3;
-        }
-        0
+        Ok(())
     }
 
     // Refusals 1 to 4: those of the layout, and the image's length.
-    pub fn check_image(self, len: usize) -> u32
+    pub fn check_image(self, len: usize) -> Result<(), Refusal>
         ensures { ChecksImage len self result }
     {
-        let refused = self.check();
-        if refused != 0 {
-            return refused;
-        }
+        self.check()?;
         if len != rows(self.shape_of()) * self.blocks() {
-            return 4;
+            return Err(Refusal::BadLength);
         }
-        0
+        Ok(())
     }
 }

@@ -13,14 +13,11 @@ impl Layout {
         (self.g as usize) * (self.s as usize)
     }
 
-    // The shape with the layout's number.
+    // The shape with the layout's number. A number that is no shape's is refused before anything asks for its shape.
     pub(crate) fn shape_of(self) -> Shape
         ensures { result ≡ shape_of self }
     {
-        if self.shape == 1 {
-            return Shape::One;
-        }
-        Shape::Two
+        Shape::try_from(self.shape).unwrap_or(Shape::Two)
     }
 
     // How many words a group has.

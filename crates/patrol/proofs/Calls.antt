@@ -1,68 +1,50 @@
--- What format, ask and turn answer and leave, from what their steps gave. Assumes nothing.
-use Prim.Native.Nat.{ℕ}
-use mathlib.Core.Path.{◌≡◌, sym, ◌∙◌}
+-- What a turn that is accepted finds due, reports and leaves. Assumes nothing.
+use Prim.Native.Nat.{ℕ, ◌<◌}
+use mathlib.Core.Path.{◌≡◌, sym, ap, subst}
 use mathlib.Core.List.{List}
 use lib.ListN.{length}
-use Rattle.ground.proofs.Choices.{refused_kept}
-use Rattle.layout.specs.declared.Layout.{Layout}
-use Rattle.layout.specs.Layout.{layout_of, blocks}
-use Rattle.layout.specs.Refusal.{layout_refusal, image_refusal}
+use Rattle.std.specs.Prelude.{Option, unwrap_or, Result, Ok}
+use Rattle.refusal.specs.declared.Refusal.{Refusal}
+use Rattle.layout.specs.Layout.{blocks}
+use Rattle.layout.specs.Refusal.{image_refusal}
 use Rattle.rota.specs.declared.Rota.{Rota}
-use Rattle.rota.specs.declared.Place.TheVariants.{Refused as NoPlace}
-use Rattle.rota.specs.declared.RotaAsked.{RotaAsked}
-use Rattle.rota.specs.declared.RotaTurned.{RotaTurned}
-use Rattle.rota.specs.Record.{fresh}
+use Rattle.rota.specs.declared.Due.{Due}
+use Rattle.rota.specs.Answer.{RotaTurned}
+use Rattle.rota.specs.Numbers.{due_number, first_block, second_block}
+use Rattle.rota.specs.Calls.{RotaTurns}
 use Rattle.rota.proofs.Ranges.{due_inside}
-use Rattle.store.specs.Fresh.{Clears}
+use Rattle.rota.proofs.Numbers.{turns_is}
 use Rattle.patrol.specs.declared.Record.{Record}
 use Rattle.patrol.specs.declared.Report.{Report}
-use Rattle.patrol.specs.declared.Report.TheVariants.{Refused}
-use Rattle.patrol.specs.Format.{no_record, formatted, Formats}
-use Rattle.patrol.specs.Ask.{with_rota, asked_now, asked}
+use Rattle.patrol.specs.Ask.{with_rota}
 use Rattle.patrol.specs.Turn.{reported, patrolled, turned_now, turned, turn_after, Turns}
 use Rattle.patrol.specs.Inner.{Ready}
-use Rattle.patrol.proofs.Promises.{formats, turns}
+use Rattle.patrol.proofs.Promises.{turns}
 
--- ---- format
+module _ (r : Record) (len : ℕ) (passed : 0 ≡ image_refusal len r.layout)
+    {due : Due} {after : Rota} (moved : RotaTurns (blocks r.layout) r.rota (Ok due) after) where
+  answered : record { due = Ok due; rota = after } ≡ turned_now r
+  answered = turns_is _ _ moved
 
-module _ (image : List ℕ) (layout : Layout) (number : ℕ) (after : List ℕ) (cleared : Clears image layout number after) (rota : Rota) (new : rota ≡ fresh) where
-  pub format_refused : (number ≡ 0 → ⊥) → Formats image layout (record { number = number; back = record { layout = layout_of 0 0 0; rota = rota } }) after
-  unfolding formatted
-  format_refused ne = formats _ _ (rw (← cleared.answers, refused_kept number _ no_record ne, new)) cleared.leaves
+  inside : (first_block (Ok due) < blocks r.layout) × (second_block (Ok due) < blocks r.layout)
+  inside =
+      let e : (turned_now r).due ≡ Ok due = sym (ap (λ (a : RotaTurned). a.due) answered) in
+      let both = due_inside (blocks r.layout) r.rota (ap due_number e) in (
+        subst (λ (d : Result Due Refusal). first_block d < blocks r.layout) e both.0,
+        subst (λ (d : Result Due Refusal). second_block d < blocks r.layout) e both.1,
+      )
 
-  pub format_done : number ≡ 0 → Formats image layout (record { number = number; back = record { layout = layout; rota = rota } }) after
-  unfolding formatted
-  format_done z = formats _ _ (rw (← cleared.answers, z, new)) cleared.leaves
+  pub turn_ready : Ready r.layout len due
+  turn_ready =
+      record {
+        passed = sym passed;
+        patrol = inside.0;
+        ask = λ block e. subst (λ (o : Option ℕ). unwrap_or o 0 < blocks r.layout) e inside.1;
+      }
 
--- ---- ask
-
--- the blocks of a layout that is not refused are few
-module _ (r : Record) (block number : ℕ) (checked : number ≡ layout_refusal r.layout) where
-  pub ask_refused_lem : (number ≡ 0 → ⊥) → record { place = NoPlace number; back = r } ≡ asked r block
-  unfolding asked
-  ask_refused_lem ne = rw (← checked) (sym (refused_kept number _ _ ne))
-
-  pub ask_answered : number ≡ 0 → (answer : RotaAsked) → answer ≡ asked_now r block
-      → record { place = answer.place; back = with_rota r answer.rota } ≡ asked r block
-  unfolding asked
-  ask_answered z answer e = rw (← checked, z, e)
-
--- ---- turn
-
-module _ (r : Record) (number : ℕ) where
-  pub turn_refused_lem : (image : List ℕ) → number ≡ image_refusal (length image) r.layout → (number ≡ 0 → ⊥)
-      → Turns r image (record { report = Refused number; back = r }) image
+  pub turn_reported : (image : List ℕ) → len ≡ length image → {report : Report} {left : List ℕ}
+      → (report ≡ reported r.layout image due) × (left ≡ patrolled r.layout image due)
+      → Turns r image (record { report = Ok report; back = with_rota r after }) left
   unfolding turned turn_after
-  turn_refused_lem image checked ne =
-      turns _ _ (rw (← checked) (sym (refused_kept number _ _ ne))) (rw (← checked) (sym (refused_kept number _ image ne)))
-
-  module _ (passed : number ≡ 0) (answer : RotaTurned) (moved : answer ≡ turned_now r) where
-    pub turn_ready : (len : ℕ) → number ≡ image_refusal len r.layout → Ready r.layout len answer.due
-    turn_ready len checked = record { passed = sym checked ∙ passed; inside = rw moved (due_inside (blocks r.layout) r.rota) }
-
-    pub turn_reported : (image : List ℕ) → number ≡ image_refusal (length image) r.layout
-        → (report : Report) (after : List ℕ) → (report ≡ reported r.layout image answer.due) × (after ≡ patrolled r.layout image answer.due)
-        → Turns r image (record { report = report; back = with_rota r answer.rota }) after
-    unfolding turned turn_after
-    turn_reported image checked report after e =
-        turns _ _ (rw (← checked, passed, e.0, moved)) (rw (← checked, passed, e.1, moved))
+  turn_reported image size e =
+      turns _ _ (rw (← size, ← passed, ← answered, e.0)) (rw (← size, ← passed, ← answered, e.1))

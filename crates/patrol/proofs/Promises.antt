@@ -4,31 +4,33 @@ use Prim.Native.Nat.{ℕ, zero, suc}
 use mathlib.Core.Path.{◌≡◌, refl, sym, ap, ◌∙◌}
 use mathlib.Core.List.{List, [], ◌∷◌}
 use lib.ListN.{length}
+use Rattle.std.specs.Prelude.{Result, Err}
 use Rattle.ground.specs.Choice.{if_zero}
 use Rattle.ground.specs.Ladder.{◌then◌}
 use Rattle.block.specs.Verdict.{Said}
 use Rattle.block.proofs.Verdicts.{verdict_says}
+use Rattle.refusal.specs.declared.Refusal.{Refusal}
+use Rattle.refusal.specs.Refusal.{numbered, answered}
 use Rattle.layout.specs.declared.Layout.{Layout}
 use Rattle.layout.specs.Layout.{shape_of, blocks}
 use Rattle.layout.specs.Refusal.{layout_refusal, image_refusal}
-use Rattle.rota.specs.Line.{asks_of}
+use Rattle.rota.specs.declared.Due.{Due}
+use Rattle.rota.specs.Line.{asks_of, first_of}
 use Rattle.rota.specs.Asking.{ask_place}
 use Rattle.rota.specs.Numbers.{place_given}
-use Rattle.rota.specs.declared.Place.TheVariants.{Refused as NoPlace}
 use Rattle.rota.specs.Record.{plan_of, ask_number, rota_asked, turn_number, rota_turned}
 use Rattle.rota.proofs.Numbers as rotaNumbers
 use Rattle.store.specs.Image.{gathered}
 use Rattle.store.specs.Fresh.{fresh_after}
 use Rattle.patrol.specs.declared.Record.{Record}
-use Rattle.patrol.specs.declared.Formatted.{Formatted}
+use Rattle.patrol.specs.Handed.{Formatted}
 use Rattle.patrol.specs.declared.Asked.{Asked}
 use Rattle.patrol.specs.declared.Turned.{Turned}
-use Rattle.patrol.specs.declared.Report.TheVariants.{Refused}
 use Rattle.patrol.specs.Numbers.{seen_of, unseen, report_first, report_second}
 use Rattle.patrol.specs.Format.{formatted, Formats}
 use Rattle.patrol.specs.Ask.{with_rota, with_ask, asked, Asks}
-use Rattle.patrol.specs.Turn.{with_turn, seen_in, ask_seen, ask_visited, seen, visited, reported, patrolled, turned, turn_after, Turns}
-use Rattle.patrol.proofs.Numbers.{reports_told, ask_number_lem, ask_numbered, turn_number_lem, turn_numbered}
+use Rattle.patrol.specs.Turn.{with_turn, seen_in, ask_seen, ask_visited, seen, visited, report_by, image_by, turned, turn_after, Turns}
+use Rattle.patrol.proofs.Numbers.{reports_told, ask_number_lem, turn_number_lem}
 
 -- ---- format
 
@@ -52,7 +54,7 @@ module _ (r : Record) (block : ℕ) where
   asked_with number later =
       if_zero number
       (record { place = (rotaNumbers.answer_by n r.rota block later).place; back = with_rota r (rotaNumbers.answer_by n r.rota block later).rota })
-      (record { place = NoPlace number; back = r })
+      (record { place = Err (numbered number); back = r })
 
   asks_asked : Asks r block (asked r block)
   unfolding asked rota_asked
@@ -60,7 +62,6 @@ module _ (r : Record) (block : ℕ) where
       record {
         number = ask_number_lem r block;
         place = place (layout_refusal r.layout) (ask_number n r.rota block);
-        numbered = ask_numbered r block;
         back = back (layout_refusal r.layout) (ask_number n r.rota block);
       }
     where
@@ -77,7 +78,7 @@ module _ (r : Record) (block : ℕ) where
   -- one answer keeps the promise
   pub one_asked : {answer other : Asked} → Asks r block answer → Asks r block other → answer ≡ other
   one_asked {answer} {other} p q =
-      let place = rotaNumbers.place_told answer.place other.place p.numbered q.numbered (p.number ∙ sym q.number) (p.place ∙ sym q.place) in
+      let place = rotaNumbers.place_told answer.place other.place (p.number ∙ sym q.number) (p.place ∙ sym q.place) in
       let back = p.back ∙ sym q.back in
       λ i. record { place = place i; back = back i }
 
@@ -93,15 +94,16 @@ module _ (r : Record) (image : List ℕ) where
   abbrev next : ℕ
   next = r.rota.next
 
-  -- the answer, by the refusals of the image and of the rota, and the list of asks
+  -- what the rota answers, by its refusal and the list of asks
+  abbrev due_with : ℕ → List ℕ → Result Due Refusal
+  due_with later l = answered later (record { patrol = next; ask = first_of l })
+
+  -- the answer, by the refusals of the image and of the rota, and that list
   abbrev turned_with : ℕ → ℕ → List ℕ → Turned
   turned_with number later l =
       if_zero number
-      (record {
-        report = reported r.layout image (rotaNumbers.turn_by (blocks r.layout) r.rota later l).due;
-        back = with_rota r (rotaNumbers.turn_by (blocks r.layout) r.rota later l).rota;
-      })
-      (record { report = Refused number; back = r })
+      (record { report = report_by r.layout image (due_with later l); back = with_rota r (rotaNumbers.turn_by (blocks r.layout) r.rota later).rota })
+      (record { report = Err (numbered number); back = r })
 
   abbrev refused : ℕ
   refused = image_refusal (length image) r.layout
@@ -124,15 +126,13 @@ module _ (r : Record) (image : List ℕ) where
         number = turn_number_lem r image;
         first = first refused late waiting;
         second = second refused late waiting;
-        numbered = turn_numbered r image;
         back = back refused late waiting;
         leaves = leaves refused late waiting;
       }
     where
       first : (number later : ℕ) (l : List ℕ)
           → report_first (turned_with number later l).report ≡ if_zero (number then later) (seen_in r.layout image next) unseen
-      first zero zero [] = said_seen image next
-      first zero zero (a ∷ l) = said_seen image next
+      first zero zero l = said_seen image next
       first zero (suc later) l = refl
       first (suc number) later l = refl
 
@@ -143,14 +143,13 @@ module _ (r : Record) (image : List ℕ) where
       second zero (suc later) l = refl
       second (suc number) later l = refl
 
-      back : (number later : ℕ) (l : List ℕ)
-          → (turned_with number later l).back ≡ if_zero (number then later) (with_turn r) r
+      back : (number later : ℕ) (l : List ℕ) → (turned_with number later l).back ≡ if_zero (number then later) (with_turn r) r
       back zero zero l = refl
       back zero (suc later) l = refl
       back (suc number) later l = refl
 
       leaves : (number later : ℕ) (l : List ℕ)
-          → if_zero number (patrolled r.layout image (rotaNumbers.turn_by (blocks r.layout) r.rota later l).due) image
+          → if_zero number (image_by r.layout image (due_with later l)) image
           ≡ if_zero (number then later) (ask_visited r.layout image next l) image
       leaves zero zero [] = refl
       leaves zero zero (a ∷ l) = refl
@@ -160,7 +159,7 @@ module _ (r : Record) (image : List ℕ) where
   -- one answer and one image keep the promise
   pub one_turned : {answer other : Turned} {after also : List ℕ} → Turns r image answer after → Turns r image other also → (answer ≡ other) × (after ≡ also)
   one_turned {answer} {other} p q =
-      let report = reports_told answer.report other.report p.numbered q.numbered (p.number ∙ sym q.number) (p.first ∙ sym q.first)
+      let report = reports_told answer.report other.report (p.number ∙ sym q.number) (p.first ∙ sym q.first)
       (p.second ∙ sym q.second) in
       let back = p.back ∙ sym q.back in
       (λ i. record { report = report i; back = back i }, p.leaves ∙ sym q.leaves)

@@ -9,8 +9,7 @@ use Rattle.ground.proofs.Choices.{refused_kept}
 use Rattle.layout.specs.declared.Layout.{Layout}
 use Rattle.layout.specs.Layout.{blocks}
 use Rattle.layout.specs.Refusal.{layout_refusal, image_refusal}
-use Rattle.rota.specs.declared.RotaAsked.{RotaAsked}
-use Rattle.rota.specs.declared.RotaTurned.{RotaTurned}
+use Rattle.rota.specs.Answer.{RotaAsked, RotaTurned}
 use Rattle.rota.specs.Numbers.{place_number}
 use Rattle.rota.specs.Record.{ask_number, turn_number}
 use Rattle.rota.proofs.Numbers as rotaNumbers
@@ -18,7 +17,7 @@ use Rattle.store.specs.Fresh.{fresh_after}
 use Rattle.patrol.specs.declared.Record.{Record}
 use Rattle.patrol.specs.Format.{no_record, formatted}
 use Rattle.patrol.specs.Ask.{with_rota, asked_by, asked}
-use Rattle.patrol.specs.Turn.{patrolled, turned_now, turned_by, turned, turn_after}
+use Rattle.patrol.specs.Turn.{image_by, turned_now, turned_by, turned, turn_after}
 use Rattle.patrol.specs.Numbers.{report_number}
 use Rattle.patrol.proofs.Numbers.{ask_number_lem, turn_number_lem}
 
@@ -46,9 +45,9 @@ module _ (r : Record) where
       go (image_refusal (length image) r.layout) (turn_number (blocks r.layout) r.rota) refl (λ z. ne (turn_number_lem r image ∙ z))
     where
       go : (number later : ℕ) → turn_number (blocks r.layout) r.rota ≡ later → (number then later ≡ 0 → ⊥)
-          → ((turned_by r image number).back ≡ r) × (if_zero number (patrolled r.layout image (turned_now r).due) image ≡ image)
+          → ((turned_by r image number).back ≡ r) × (if_zero number (image_by r.layout image (turned_now r).due) image ≡ image)
       go zero zero e some = absurd (some refl)
       go zero (suc later) e some =
           let kept = rotaNumbers.turn_refused_lem (blocks r.layout) r.rota later e in
-          (ap (λ (a : RotaTurned). with_rota r a.rota) kept, ap (λ (a : RotaTurned). patrolled r.layout image a.due) kept)
+          (ap (λ (a : RotaTurned). with_rota r a.rota) kept, ap (λ (a : RotaTurned). image_by r.layout image a.due) kept)
       go (suc number) later e some = (refl, refl)

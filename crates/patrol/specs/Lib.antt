@@ -1,3 +1,4 @@
+pub mod Handed
 pub mod Format
 pub mod Ask
 pub mod Turn

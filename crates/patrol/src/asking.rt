@@ -2,26 +2,24 @@
 ghost use Rattle.patrol.specs.Ask.{Asks};
 
 use super::{Asked, Record};
-use rota::Place;
+use refusal::Refusal;
 
 impl Record {
+    // By value, as the specification hands the old record in and gets the new one back.
     pub fn ask(self, block: u32) -> Asked
         ensures { Asks self block result }
     {
-        let layout = self.layout;
-        let number = layout.check();
-        if number != 0 {
-            return Asked {
-                place: Place::Refused(number),
-                back: self,
-            };
-        }
-        let rota = self.rota;
-        let answer = rota.ask(layout.blocks() as u32, block);
-        let place = answer.place;
-        let moved = answer.rota;
         let mut back = self;
-        back.rota = moved;
+        let place = back.join(block);
         Asked { place, back }
+    }
+
+    // The place that the block has on the list.
+    fn join(&mut self, block: u32) -> Result<u32, Refusal>
+        ensures { Asks self.old block (record { place = result; back = self.new }) }
+    {
+        self.layout.check()?;
+        let n = self.layout.blocks() as u32;
+        self.rota.ask(n, block)
     }
 }

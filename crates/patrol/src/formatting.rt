@@ -1,28 +1,19 @@
 // Format: the fresh image, and the record of a fresh store.
-ghost use Rattle.patrol.specs.Format.{Formats};
+ghost use Rattle.patrol.specs.Format.{formatted_as, Formats};
 
 use super::{Formatted, Record};
 use layout::Layout;
 use rota::Rota;
 
 pub fn format(image: &mut [u32], layout: Layout) -> Formatted
-    ensures { Formats image.old layout result image.new }
+    ensures { Formats image.old layout (formatted_as result) image.new }
 {
-    let number = store::fresh(image, layout);
+    let done = store::fresh(image, layout);
+    let layout = match done {
+        Ok(()) => layout,
+        Err(_) => Layout::default(),
+    };
     let rota = Rota::fresh();
-    if number != 0 {
-        let none = Layout {
-            shape: 0,
-            s: 0,
-            g: 0,
-        };
-        return Formatted {
-            number,
-            back: Record { layout: none, rota },
-        };
-    }
-    Formatted {
-        number,
-        back: Record { layout, rota },
-    }
+    let back = Record { layout, rota };
+    Formatted { done, back }
 }

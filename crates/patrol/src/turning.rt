@@ -3,31 +3,30 @@ ghost use Rattle.std.specs.Prelude.{◌≡◌, length};
 ghost use Rattle.patrol.specs.Turn.{reported, patrolled, Turns};
 ghost use Rattle.patrol.specs.Inner.{Ready};
 
-use super::{Record, Report, Turned};
+use super::{Record, Report, Turned, Visit};
 use layout::Layout;
+use refusal::Refusal;
 use rota::Due;
 use store::visit_accepted;
 
 impl Record {
+    // By value, as an ask.
     pub fn turn(self, image: &mut [u32]) -> Turned
         ensures { Turns self image.old result image.new }
     {
-        let layout = self.layout;
-        let number = layout.check_image(image.len());
-        if number != 0 {
-            return Turned {
-                report: Report::Refused(number),
-                back: self,
-            };
-        }
-        let rota = self.rota;
-        let answer = rota.turn(layout.blocks() as u32);
-        let due = answer.due;
-        let moved = answer.rota;
-        let report = visit_due(layout, image, due);
         let mut back = self;
-        back.rota = moved;
+        let report = back.advance(image);
         Turned { report, back }
+    }
+
+    // The report of the blocks that are due.
+    fn advance(&mut self, image: &mut [u32]) -> Result<Report, Refusal>
+        ensures { Turns self.old image.old (record { report = result; back = self.new }) image.new }
+    {
+        let layout = self.layout;
+        layout.check_image(image.len())?;
+        let due = self.rota.turn(layout.blocks() as u32)?;
+        Ok(visit_due(layout, image, due))
     }
 }
 
@@ -36,16 +35,22 @@ fn visit_due(layout: Layout, image: &mut [u32], due: Due) -> Report
     requires { Ready layout (length image.old) due }
     ensures { (result ≡ reported layout image.old due) × (image.new ≡ patrolled layout image.old due) }
 {
-    match due {
-        Due::Refused(number) => Report::Refused(number),
-        Due::One(first) => {
-            let verdict = visit_accepted(image, layout, first);
-            Report::One(first, verdict)
-        }
-        Due::Two(first, second) => {
-            let patrol = visit_accepted(image, layout, first);
-            let ask = visit_accepted(image, layout, second);
-            Report::Two(first, patrol, second, ask)
+    let first = due.patrol;
+    let patrol = Visit {
+        block: first,
+        verdict: visit_accepted(image, layout, first),
+    };
+    match due.ask {
+        None => Report { patrol, ask: None },
+        Some(second) => {
+            let ask = Visit {
+                block: second,
+                verdict: visit_accepted(image, layout, second),
+            };
+            Report {
+                patrol,
+                ask: Some(ask),
+            }
         }
     }
 }

@@ -1,9 +1,10 @@
 pub mod Short
 pub mod Counts
-pub mod VerdictLine
 pub mod Visited
 pub mod SameLines
 pub mod Reported
 pub mod Whole
 pub mod Input
 pub mod OneResult
+pub mod Parts
+pub mod Below

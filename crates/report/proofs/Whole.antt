@@ -25,13 +25,15 @@ use Rattle.ground.specs.Ladder.{◌when◌else◌, ◌then◌}
 use Rattle.ground.specs.Rules.{Rule, FirstOf}
 use Rattle.layout.proofs.Ladder.{Geometry}
 use Rattle.layout.proofs.Shapes.{shape_one, shape_two}
-use Rattle.file.specs.declared.Header.{Header}
-use Rattle.file.specs.declared.Header.TheVariants.{Image}
+use Rattle.std.specs.Prelude.{Result}
+use Rattle.refusal.specs.declared.Refusal.{Refusal}
+use Rattle.refusal.specs.Refusal.{answered}
+use Rattle.refusal.proofs.Answered.{number_of_numbered}
 use Rattle.file.specs.Bytes.{layout_in, word_count, image_in}
 use Rattle.layout.specs.Refusal.{length_rung}
 use Rattle.file.specs.Refusal.{file_refusal, read_refusal}
 use Rattle.file.specs.Reason.{file_rules}
-use Rattle.file.specs.Header.{header_if, header_of}
+use Rattle.file.specs.Header.{header_of}
 use Rattle.file.proofs.Ladder.{Accepted, accepted, file_first}
 use Rattle.file.proofs.FileReads.{words_exact}
 use Rattle.report.specs.declared.Tally.{Tally}
@@ -44,7 +46,7 @@ use Rattle.report.specs.Inner.{header_for, Reports}
 use Rattle.report.proofs.Short.{Short, ◌and◌, named_short, any_length, loosely, one_end, nothing, and_then, one_text, one_number}
 use Rattle.report.proofs.Counts.{Within, verdict_most, tally_within}
 use Rattle.text.proofs.Decimal.{decimal_short}
-use Rattle.text.proofs.Pages.{all_fit}
+use Rattle.text.proofs.Pages.{length_last, all_fit}
 
 -- ---- the lines
 
@@ -148,14 +150,6 @@ total_short n tally h w =
 
 -- ---- the report of an image
 
-end_to_end_last : (lines : List (List ℕ)) (line : List ℕ) → length (end_to_end (lines ++ line ∷ [])) ≡ length (end_to_end lines) + length line
-unfolding end_to_end
-end_to_end_last [] line = omega (arith, length-append line [])
-end_to_end_last (first ∷ lines) line =
-    let more = length-append first (end_to_end (lines ++ line ∷ [])) in
-    let less = length-append first (end_to_end lines) in
-    omega (arith, end_to_end_last lines line)
-
 blocks_short : (image : List ℕ) (layout : Layout) (n : ℕ) → n ≤ 511
     → length (end_to_end (block_lines (verdict_at image layout) n)) + 2 * (tally_below (verdict_at image layout) n).clean
     ≤ 18 * n + besides (shape_of layout) n + (n - 10) + (n - 100)
@@ -167,7 +161,7 @@ blocks_short image layout (suc n) h =
     let second = second_digits (shape_of layout) (gathered layout n (visited_below image layout n)) (omega arith) in
     omega (
       arith,
-      end_to_end_last (block_lines (verdict_at image layout) n) (block_line n v),
+      length_last (block_lines (verdict_at image layout) n) (block_line n v),
       block_short n v (tally_below (verdict_at image layout) n) (besides (shape_of layout) 1) (omega arith) second,
       one_besides (shape_of layout) n,
       digits n (omega arith),
@@ -192,7 +186,7 @@ report_short image layout ok h =
       arith,
       length-append first (end_to_end rest),
       (image_short layout ok few).few,
-      end_to_end_last (block_lines (verdict_at image layout) n) total,
+      length_last (block_lines (verdict_at image layout) n) total,
       blocks_short image layout n few,
       lines_most (shape_of layout) n h,
       (total_short n (tally_below (verdict_at image layout) n) few (tally_within image layout n)).few,
@@ -235,21 +229,21 @@ number_most : (bytes : List ℕ) → file_refusal bytes ≤ 11
 number_most bytes = first_low (file_rules bytes) (file_refusal bytes) tt (file_first bytes)
 
 module _ (bytes : List ℕ) where
-  abbrev found : Header
-  found = Image (layout_in bytes)
+  abbrev found : Layout
+  found = layout_in bytes
 
   pub file_short : length (end_to_end (report_of bytes)) ≤ 10204
   unfolding report_of header_of end_to_end
   file_short = by (file_refusal bytes) refl
     where
-      by : (n : ℕ) → file_refusal bytes ≡ n → length (end_to_end (report_for (header_if n found) (image_in bytes))) ≤ 10204
+      by : (n : ℕ) → file_refusal bytes ≡ n → length (end_to_end (report_for (answered n found) (image_in bytes))) ≤ 10204
       by zero e =
           let ok = accepted bytes e in
           report_short (image_in bytes) (layout_in bytes) ok.geometry (file_most bytes ok).0
       by (suc n) e =
           let most = number_most bytes in
           let short = (refusal_short (suc n) (omega arith)).few in
-          omega (arith, length-append (refusal_line (suc n)) [])
+          rw (number_of_numbered (suc n) (omega arith) (λ z. omega arith)) (omega (arith, length-append (refusal_line (suc n)) []))
 
   -- an image of 8,176 words has room, so that none is refused for its length
   file_room : (room : ℕ) → 8176 ≤ room → header_for bytes (min (word_count (length bytes)) room) ≡ header_of bytes
@@ -259,12 +253,12 @@ module _ (bytes : List ℕ) where
       count : ℕ
       count = min (word_count (length bytes)) room
 
-      by : (n : ℕ) → file_refusal bytes ≡ n → header_if (n then length_rung count (layout_in bytes)) found ≡ header_if n found
+      by : (n : ℕ) → file_refusal bytes ≡ n → answered (n then length_rung count (layout_in bytes)) found ≡ answered n found
       by zero e =
           let few = (file_most bytes (accepted bytes e)).1 in
           let all : count ≡ word_count (length bytes) = min-eq_left (omega arith) in
           let fits = eq-eqb count _ (all ∙ words_exact bytes e) in
-          ap (λ (t : Bool). header_if (4 when not t else 0) found) fits
+          ap (λ (t : Bool). answered (4 when not t else 0) found) fits
       by (suc n) e = refl
 
 -- with 8,176 words and 10,204 bytes lent, the report is there whole, from byte 0 on, and the bytes past it are as they were
@@ -278,7 +272,7 @@ report_whole {bytes} {out} {printed} {room} {next} r h k =
     let short = file_short bytes in
     let there : page printed next ≡ page (text ++ drop (length text) out) (length text) =
     r
-    ∙ ap (λ (header : Header). written_all (report_for header (image_in bytes)) (page out 0)) (file_room bytes room h)
+    ∙ ap (λ (header : Result Layout Refusal). written_all (report_for header (image_in bytes)) (page out 0)) (file_room bytes room h)
     ∙ all_fit (report_of bytes) out 0 (omega arith)
     ∙ ap (λ (n : ℕ). page (text ++ drop n out) n) (zero-add (length text)) in
     record {

@@ -1,14 +1,14 @@
 -- The program visits its copy of each block from 0 to N − 1 and prints the image line, a line for each block and the total line; or one line
 -- for a refusal. Assumes nothing.
-use Rattle.std.specs.Prelude.{ℕ, zero, suc, ◌≡◌, List, [], ◌∷◌, ◌++◌, length, take, drop}
+use Rattle.std.specs.Prelude.{ℕ, zero, suc, ◌≡◌, List, [], ◌∷◌, ◌++◌, length, take, drop, Result, Ok, Err}
+use Rattle.refusal.specs.declared.Refusal.{Refusal}
+use Rattle.refusal.specs.Refusal.{number}
 use Rattle.block.specs.declared.Verdict.{Verdict}
 use Rattle.block.specs.Verdict.{verdict_of}
 use Rattle.layout.specs.declared.Layout.{Layout}
 use Rattle.layout.specs.Layout.{shape_of, blocks}
 use Rattle.store.specs.Image.{gathered}
 use Rattle.store.specs.Visit.{visit_after}
-use Rattle.file.specs.declared.Header.{Header}
-use Rattle.file.specs.declared.Header.TheVariants.{Refused, Image}
 use Rattle.file.specs.Bytes.{image_in}
 use Rattle.file.specs.Header.{header_of}
 use Rattle.report.specs.declared.Tally.{Tally}
@@ -48,9 +48,9 @@ image_report image layout = lines_by layout (verdict_at image layout)
 
 -- ---- a file
 
-abbrev pub report_for : Header → List ℕ → List (List ℕ)
-report_for (Refused number) image = refusal_line number ∷ []
-report_for (Image layout) image = image_report image layout
+abbrev pub report_for : Result Layout Refusal → List ℕ → List (List ℕ)
+report_for (Err refusal) image = refusal_line (number refusal) ∷ []
+report_for (Ok layout) image = image_report image layout
 
 -- the lines that are printed of a file
 unfoldable pub report_of : List ℕ → List (List ℕ)

@@ -1,67 +1,78 @@
-// The lines of a report, each written at a place of a lent buffer; answers the next place.
+// The lines of a report, each at the next place of a page.
 // A line that does not fit is not written, and the place stays.
-ghost use Rattle.std.specs.Prelude.{◌≡◌};
-ghost use Rattle.text.specs.Page.{page, written, written_all};
-ghost use Rattle.report.specs.Lines.{refusal_line, image_line, verdict_parts, block_line, total_line};
+ghost use Rattle.std.specs.Prelude.{◌+◌, ◌*◌, ◌<◌, length};
+ghost use Rattle.text.specs.Puts.{PutsText, OnPage};
+ghost use Rattle.report.specs.Lines.{refusal_line, image_line, block_line, total_line};
+ghost use Rattle.report.specs.Inner.{names, line_of};
 
 use super::Tally;
 use block::Verdict;
 use layout::Layout;
-use text::{put_named, put_text};
+use text::Page;
 
-pub(crate) fn refusal_line(number: u32, out: &mut [u8], at: usize) -> usize
-    ensures { page out.new result ≡ written (refusal_line number) (page out.old at) }
+// Each name and the number after it, and the line's end.
+fn put_line(parts: &[(&[u8], u32)], page: &mut Page<'_>)
+    requires { names parts.now + 10 * length parts.now < 96 }
+    ensures { OnPage (PutsText (line_of parts.now)) page.old page.new }
 {
-    let mut line = [0u8; 96];
-    let end = put_named(b"refused ", number, &mut line, 0);
-    let n = put_text(b"\n", &mut line, end);
-    put_text(&line[..n], out, at)
+    // A line goes out whole or not at all: a buffer, as no heap is allowed.
+    let mut bytes = [0u8; 96];
+    let mut line = Page {
+        bytes: &mut bytes,
+        next: 0,
+    };
+    for (name, number) in parts {
+        line.put_named(name, *number);
+    }
+    line.put_text(b"\n");
+    let end = line.next;
+    page.put_text(&line.bytes[..end]);
 }
 
-pub(crate) fn image_line(layout: Layout, blocks: u32, out: &mut [u8], at: usize) -> usize
-    ensures { page out.new result ≡ written (image_line layout blocks) (page out.old at) }
+pub(crate) fn refusal_line(number: u32, page: &mut Page<'_>)
+    ensures { OnPage (PutsText (refusal_line number)) page.old page.new }
 {
-    let mut line = [0u8; 96];
-    let after_shape = put_named(b"image shape ", layout.shape, &mut line, 0);
-    let after_s = put_named(b" interleave ", layout.s, &mut line, after_shape);
-    let after_g = put_named(b" groups ", layout.g, &mut line, after_s);
-    let end = put_named(b" blocks ", blocks, &mut line, after_g);
-    let n = put_text(b"\n", &mut line, end);
-    put_text(&line[..n], out, at)
+    put_line(&[(b"refused ", number)], page);
 }
 
-// The verdict and its count, or its two for lost.
-fn put_verdict(verdict: Verdict, line: &mut [u8], at: usize) -> usize
-    ensures { page line.new result ≡ written_all (verdict_parts verdict) (page line.old at) }
+pub(crate) fn image_line(layout: Layout, blocks: u32, page: &mut Page<'_>)
+    ensures { OnPage (PutsText (image_line layout blocks)) page.old page.new }
+{
+    put_line(
+        &[
+            (b"image shape ", layout.shape),
+            (b" interleave ", layout.s),
+            (b" groups ", layout.g),
+            (b" blocks ", blocks),
+        ],
+        page,
+    );
+}
+
+// The verdict has its count, or its two for lost.
+pub(crate) fn block_line(block: u32, verdict: Verdict, page: &mut Page<'_>)
+    ensures { OnPage (PutsText (block_line block verdict)) page.old page.new }
 {
     match verdict {
-        Verdict::Clean => put_named(b" clean ", 0, line, at),
-        Verdict::Mended(bits) => put_named(b" mended ", bits, line, at),
-        Verdict::Lost(even, beyond) => {
-            let next = put_named(b" lost ", even, line, at);
-            put_named(b" ", beyond, line, next)
-        }
+        Verdict::Clean => put_line(&[(b"block ", block), (b" clean ", 0)], page),
+        Verdict::Mended(bits) => put_line(&[(b"block ", block), (b" mended ", bits)], page),
+        Verdict::Lost(even, beyond) => put_line(
+            &[(b"block ", block), (b" lost ", even), (b" ", beyond)],
+            page,
+        ),
     }
 }
 
-pub(crate) fn block_line(block: u32, verdict: Verdict, out: &mut [u8], at: usize) -> usize
-    ensures { page out.new result ≡ written (block_line block verdict) (page out.old at) }
+pub(crate) fn total_line(tally: Tally, page: &mut Page<'_>)
+    ensures { OnPage (PutsText (total_line tally)) page.old page.new }
 {
-    let mut line = [0u8; 96];
-    let after_block = put_named(b"block ", block, &mut line, 0);
-    let end = put_verdict(verdict, &mut line, after_block);
-    let n = put_text(b"\n", &mut line, end);
-    put_text(&line[..n], out, at)
-}
-
-pub(crate) fn total_line(tally: Tally, out: &mut [u8], at: usize) -> usize
-    ensures { page out.new result ≡ written (total_line tally) (page out.old at) }
-{
-    let mut line = [0u8; 96];
-    let after_clean = put_named(b"total clean ", tally.clean, &mut line, 0);
-    let after_mended = put_named(b" mended ", tally.mended, &mut line, after_clean);
-    let after_lost = put_named(b" lost ", tally.lost, &mut line, after_mended);
-    let end = put_named(b" bits ", tally.bits, &mut line, after_lost);
-    let n = put_text(b"\n", &mut line, end);
-    put_text(&line[..n], out, at)
+    put_line(
+        &[
+            (b"total clean ", tally.clean),
+            (b" mended ", tally.mended),
+            (b" lost ", tally.lost),
+            (b" bits ", tally.bits),
+        ],
+        page,
+    );
 }

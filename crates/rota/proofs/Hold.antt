@@ -15,10 +15,11 @@ use Rattle.rota.specs.Record.{fresh, rota_of, rota_turned}
 use Rattle.rota.specs.Steps.{ask, turn, other, tick, turns, rota_step}
 use Rattle.rota.specs.Touches.{Touch, write, read, visit, flip, nothing, overwritten, meant, last_written}
 use Rattle.rota.specs.Memory.{Memory}
-use Rattle.rota.specs.Patrol.{StepOf, touched, visited, memory_step, memory_run, memory_at, Spaced}
+use Rattle.rota.specs.Patrol.{StepOf, touched, ask_visited, visited, memory_step, memory_run, memory_at, Spaced}
 use Rattle.rota.specs.declared.Rota.{Rota}
 use Rattle.rota.specs.declared.Due.{Due}
-use Rattle.rota.specs.declared.Due.TheVariants.{Refused, One, Two}
+use Rattle.refusal.specs.declared.Refusal.{Refusal}
+use Rattle.std.specs.Prelude.{Result, Ok, Err, Option, Some, None}
 use Rattle.rota.proofs.Plans.{Sound, start_sound, ask_adds}
 use Rattle.rota.proofs.Runs.{rota_turned_is, turns_append, plan_step, plan_run, step_sound, step_runs}
 use Rattle.rota.proofs.Round.{Away, away, away_zero, away_step}
@@ -26,10 +27,13 @@ use Rattle.rota.proofs.Round.{Away, away, away_zero, away_step}
 module _ {n : ℕ} (M : Memory n) where
   -- ---- the memory stays good
 
-  visited_good : (d : Due) (m : M.State) → M.Good m → M.Good (visited M d m)
-  visited_good (Refused v) m g = g
-  visited_good (One a) m g = M.visit_good a m g
-  visited_good (Two a b) m g = M.visit_good b (M.visit a m) (M.visit_good a m g)
+  ask_good : (b : Option ℕ) (m : M.State) → M.Good m → M.Good (ask_visited M b m)
+  ask_good None m g = g
+  ask_good (Some b) m g = M.visit_good b m g
+
+  visited_good : (d : Result Due Refusal) (m : M.State) → M.Good m → M.Good (visited M d m)
+  visited_good (Ok d) m g = ask_good d.ask (M.visit d.patrol m) (M.visit_good d.patrol m g)
+  visited_good (Err v) m g = g
 
   touched_good : (x : Touch M.Data M.Flip) (m : M.State) → M.Good m → M.Good (touched M x m)
   touched_good (write b d) m g = M.write_good b d m g
@@ -144,7 +148,7 @@ module _ {n : ℕ} (M : Memory n) where
     after_first : Held Left w (M.visit p.next m)
     after_first = held_visit (Hurt done p.next) Left w m p.next past good h
 
-    after_turn : (asks : List ℕ) → Held Left w (visited M (due_of p.next asks) m)
+    after_turn : (asks : List ℕ) → Held Left w (visited M (Ok (due_of p.next asks)) m)
     after_turn [] = after_first
     after_turn (b ∷ asks) = held_visit Left Left w (M.visit p.next m) b (λ u l ne q. q) (M.visit_good p.next m good) after_first
 

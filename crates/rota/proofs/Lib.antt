@@ -1,12 +1,12 @@
 pub mod Waiting
+pub mod ListTold
 pub mod Places
 pub mod Lines
 pub mod Plans
+pub mod Numbers
 pub mod Entries
-pub mod ListTold
 pub mod Broken
 pub mod Reasons
-pub mod Numbers
 pub mod Ranges
 pub mod Runs
 pub mod Serve

@@ -1,5 +1,5 @@
 -- Laws of a line over its capacity: what its test tells, what it says, and one block more or less. Assumes nothing.
-use Prim.Native.Nat.{ℕ, suc, ◌+◌, ◌-◌, ◌≤◌, ◌<◌}
+use Prim.Native.Nat.{suc, ◌+◌, ◌-◌, ◌≤◌, ◌<◌}
 use mathlib.Core.Bool.{Bool, true, false, ◌&&◌}
 use mathlib.Core.Path.{◌≡◌, refl, sym, ap, ◌∙◌}
 use mathlib.Core.List.{List, [], ◌∷◌, ◌++◌, append_assoc}
@@ -7,9 +7,10 @@ use native.Mathlib.Omega.{arith}
 use lib.ListN.{length, drop, set, replicate, length-take, length-drop, length-append, length-replicate, take-append-drop, replicate-append-replicate}
 use lib.Seq.{length-take-le, take-append_seam, drop-append_seam, set-append_seam, append_snoc}
 use lib.Dec.{leb}
+use Rattle.std.specs.Prelude.{ℕ, zero, Some, None, get_or, take}
 use borrow.Author.Tests.{leb-true, leb-false, le-leb, lt-leb}
 use Rattle.ground.proofs.Bools.{both}
-use Rattle.rota.specs.Line.{below, none_twice, zeros, asks_of, unused_of, full, sound, line_of, longer, shorter, Tidy}
+use Rattle.rota.specs.Line.{below, none_twice, zeros, first_of, asks_of, unused_of, full, sound, line_of, longer, shorter, Tidy}
 use Rattle.rota.specs.declared.line.Line.{Line}
 use Rattle.rota.proofs.Places.{zeros_replicate, replicate_zeros}
 
@@ -115,3 +116,20 @@ module _ (capacity : ℕ) where
       shorter_is h =
           ap (λ (x : Line). record { waiting = x.waiting - 1; asks = drop 1 x.asks ++ 0 ∷ [] }) (sym tidy)
           ∙ said_shorter (asks_of line) (omega (arith, waiting_is)) (omega (arith, long, length-take line.waiting line.asks))
+
+-- ---- the block at place 1
+
+two_due : (w : ℕ) (l : List ℕ) → 0 < w → 0 < length l → Some (get_or l 0 0) ≡ first_of (take w l)
+two_due zero l h k = absurd (omega arith)
+two_due (suc w) [] h k = absurd (omega arith)
+two_due (suc w) (a ∷ l) h k = refl
+
+pub first_is : (line : Line) → 0 < line.waiting → 0 < length line.asks → Some (get_or line.asks 0 0) ≡ first_of (asks_of line)
+first_is line h k = two_due line.waiting line.asks h k
+
+pub none_shorter : (capacity : ℕ) (line : Line) → Tidy capacity line → line.waiting ≡ 0
+    → (None ≡ first_of (asks_of line)) × (line ≡ shorter capacity line)
+none_shorter capacity line tidy z = (rw z refl, sym (rw z (rw z at tidy)))
+
+pub room : (capacity : ℕ) (line : Line) → length line.asks ≡ capacity → full capacity (asks_of line) ≡ false → line.waiting < capacity
+room capacity line long e = leb-false capacity line.waiting (full_is capacity line long ∙ e)

@@ -2,7 +2,7 @@
 -- that is handed back has as many places as the one that was handed in. Assumes nothing.
 use Prim.Native.Nat.{ℕ, zero, suc, ◌≤◌, ◌<◌}
 use mathlib.Core.Bool.{Bool, true, false, not}
-use mathlib.Core.Path.{◌≡◌, refl}
+use mathlib.Core.Path.{◌≡◌, refl, sym, ap, ◌∙◌}
 use mathlib.Core.List.{List, [], ◌∷◌}
 use native.Mathlib.Omega.{arith}
 use lib.Dec.{ltb}
@@ -15,78 +15,73 @@ use Rattle.rota.specs.Line.{places, below, asks_of}
 use Rattle.rota.specs.Asking.{ask_refusal, ask_place, joined}
 use Rattle.rota.specs.Turning.{due_of, due, moved_on}
 use Rattle.rota.specs.Record.{unbroken, plan_of, rota_of, ask_number, rota_asked, turn_number, rota_turned}
-use Rattle.rota.specs.Numbers.{due_number, first_block, second_block}
+use Rattle.rota.specs.Numbers.{place_number, place_given, due_number, first_block, second_block}
 use Rattle.rota.specs.declared.Rota.{Rota}
-use Rattle.rota.specs.declared.Place.TheVariants.{Given, Refused as NoPlace}
-use Rattle.rota.specs.declared.RotaAsked.{RotaAsked}
-use Rattle.rota.specs.declared.Due.TheVariants.{Refused as NoneDue}
-use Rattle.rota.specs.declared.RotaTurned.{RotaTurned}
+use Rattle.std.specs.Prelude.{Ok}
 use Rattle.rota.proofs.Lines.{said_long}
 use Rattle.rota.proofs.Plans.{ask_place_lem, ask_few, turn_sound}
+use Rattle.refusal.proofs.Answered.{answered_accepted}
+use Rattle.rota.proofs.Numbers.{ask_number_lem, turn_number_lem}
 use Rattle.rota.proofs.Entries.{plan_fit}
 
-dues_inside : (n next : ℕ) (asks : List ℕ) → next < n → below n asks ≡ true → (first_block (due_of next asks) < n) × (second_block (due_of next asks) < n)
+dues_inside : (n next : ℕ) (asks : List ℕ) → next < n → below n asks ≡ true
+    → (first_block (Ok (due_of next asks)) < n) × (second_block (Ok (due_of next asks)) < n)
 unfolding below
 dues_inside n next [] h e = (h, omega arith)
 dues_inside n next (b ∷ asks) h e = (h, ltb-true b n (both (ltb b n) (below n asks) e).0)
 
 module _ (n : ℕ) (r : Rota) where
-  pub ask_placed : (b k : ℕ) → (rota_asked n r b).place ≡ Given k → (1 ≤ k) × (k ≤ places)
-  unfolding rota_asked ask_number
-  ask_placed b k e = go (unbroken n r) refl (ask_refusal places n (plan_of r) b) refl e
+  -- what is accepted had a record that is not broken
+  turned_unbroken : turn_number n r ≡ 0 → unbroken n r ≡ true
+  unfolding turn_number
+  turned_unbroken = go (unbroken n r)
     where
-      go : (t : Bool) → unbroken n r ≡ t → (v : ℕ) → ask_refusal places n (plan_of r) b ≡ v
-          → (if_zero {A = RotaAsked} (5 when not t else v) (record { place = Given (ask_place (plan_of r) b); rota = rota_of (joined (plan_of r) b) })
-          (record { place = NoPlace (5 when not t else v); rota = r })).place ≡ Given k
-          → (1 ≤ k) × (k ≤ places)
-      go true ok zero z e =
-          let q : ask_place (plan_of r) b ≡ k = cc in
-          rw (← q) (ask_place_lem places n (plan_of r) b (plan_fit n r ok) z)
-      go true ok (suc v) z e = let w : ◌≡◌ {A = ℕ} 0 1 = cc in absurd (omega arith)
-      go false ok v z e = let w : ◌≡◌ {A = ℕ} 0 1 = cc in absurd (omega arith)
+      go : (t : Bool) → 5 when not t else 0 ≡ 0 → t ≡ true
+      go true e = refl
+      go false e = absurd (omega arith)
+
+  asked_unbroken : (b : ℕ) → ask_number n r b ≡ 0 → (unbroken n r ≡ true) × (ask_refusal places n (plan_of r) b ≡ 0)
+  unfolding ask_number
+  asked_unbroken b = go (unbroken n r) (ask_refusal places n (plan_of r) b)
+    where
+      go : (t : Bool) (v : ℕ) → 5 when not t else v ≡ 0 → (t ≡ true) × (v ≡ 0)
+      go true v e = (refl, e)
+      go false v e = absurd (omega arith)
+
+  pub ask_placed : (b k : ℕ) → (rota_asked n r b).place ≡ Ok k → (1 ≤ k) × (k ≤ places)
+  unfolding rota_asked
+  ask_placed b k e =
+      let z : ask_number n r b ≡ 0 = sym (ask_number_lem n r b) ∙ ap place_number e in
+      let q : ask_place (plan_of r) b ≡ k = ap place_given (sym (answered_accepted (ask_number n r b) (ask_place (plan_of r) b) z) ∙ e) in
+      let ok = asked_unbroken b z in
+      rw (← q) (ask_place_lem places n (plan_of r) b (plan_fit n r ok.0) ok.1)
 
   -- where a turn is accepted, the block that is next and those that wait are below n
   pub turn_inside : turn_number n r ≡ 0 → (r.next < n) × (below n (asks_of r.line) ≡ true)
-  unfolding turn_number
-  turn_inside e = go (unbroken n r) refl e
-    where
-      go : (t : Bool) → unbroken n r ≡ t → 5 when not t else 0 ≡ 0 → (r.next < n) × (below n (asks_of r.line) ≡ true)
-      go true ok e = let s = plan_fit n r ok in (s.inside, s.low)
-      go false ok e = absurd (omega arith)
+  turn_inside e = let s = plan_fit n r (turned_unbroken e) in (s.inside, s.low)
 
   pub due_inside : due_number (rota_turned n r).due ≡ 0 → (first_block (rota_turned n r).due < n) × (second_block (rota_turned n r).due < n)
-  unfolding rota_turned turn_number
-  due_inside e = go (unbroken n r) refl e
-    where
-      answer : Bool → RotaTurned
-      answer t =
-          if_zero (5 when not t else 0) (record { due = due (plan_of r); rota = rota_of (moved_on n (plan_of r)) })
-          (record { due = NoneDue (5 when not t else 0); rota = r })
+  unfolding rota_turned
+  due_inside e =
+      let z : turn_number n r ≡ 0 = sym (turn_number_lem n r) ∙ e in
+      let s = turn_inside z in
+      rw (answered_accepted (turn_number n r) (due (plan_of r)) z) (dues_inside n r.next (asks_of r.line) s.0 s.1)
 
-      go : (t : Bool) → unbroken n r ≡ t → due_number (answer t).due ≡ 0 → (first_block (answer t).due < n) × (second_block (answer t).due < n)
-      go true ok e = let s = plan_fit n r ok in dues_inside n r.next (asks_of r.line) s.inside s.low
-      go false ok e = absurd (omega arith)
+  -- ---- the line keeps its places, whatever is answered
 
--- ---- the line keeps its places, whatever is answered
+  module _ (long : length r.line.asks ≡ places) where
+    pub ask_long : (b : ℕ) → length (rota_asked n r b).rota.line.asks ≡ places
+    unfolding rota_asked
+    ask_long b = go (ask_number n r b) refl
+      where
+        go : (v : ℕ) → ask_number n r b ≡ v → length (if_zero v (rota_of (joined (plan_of r) b)) r).line.asks ≡ places
+        go zero z = let ok = asked_unbroken b z in said_long places (joined (plan_of r) b).asks (ask_few places n (plan_of r) b (plan_fit n r ok.0) ok.1)
+        go (suc v) z = long
 
-module _ (n : ℕ) (r : Rota) (long : length r.line.asks ≡ places) where
-  pub ask_long : (b : ℕ) → length (rota_asked n r b).rota.line.asks ≡ places
-  unfolding rota_asked ask_number
-  ask_long b = go (unbroken n r) refl (ask_refusal places n (plan_of r) b) refl
-    where
-      go : (t : Bool) → unbroken n r ≡ t → (v : ℕ) → ask_refusal places n (plan_of r) b ≡ v
-          → length (if_zero {A = RotaAsked} (5 when not t else v) (record { place = Given (ask_place (plan_of r) b); rota = rota_of (joined (plan_of r) b) })
-          (record { place = NoPlace (5 when not t else v); rota = r })).rota.line.asks ≡ places
-      go true ok zero z = said_long places (joined (plan_of r) b).asks (ask_few places n (plan_of r) b (plan_fit n r ok) z)
-      go true ok (suc v) z = long
-      go false ok v z = long
-
-  pub turn_long : length (rota_turned n r).rota.line.asks ≡ places
-  unfolding rota_turned turn_number
-  turn_long = go (unbroken n r) refl
-    where
-      go : (t : Bool) → unbroken n r ≡ t
-          → length (if_zero {A = RotaTurned} (5 when not t else 0) (record { due = due (plan_of r); rota = rota_of (moved_on n (plan_of r)) })
-          (record { due = NoneDue (5 when not t else 0); rota = r })).rota.line.asks ≡ places
-      go true ok = said_long places (moved_on n (plan_of r)).asks (turn_sound places n (plan_of r) (plan_fit n r ok)).few
-      go false ok = long
+    pub turn_long : length (rota_turned n r).rota.line.asks ≡ places
+    unfolding rota_turned
+    turn_long = go (turn_number n r) refl
+      where
+        go : (v : ℕ) → turn_number n r ≡ v → length (if_zero v (rota_of (moved_on n (plan_of r))) r).line.asks ≡ places
+        go zero z = said_long places (moved_on n (plan_of r)).asks (turn_sound places n (plan_of r) (plan_fit n r (turned_unbroken z))).few
+        go (suc v) z = long

@@ -6,6 +6,8 @@ use mathlib.Core.List.{List, [], ◌∷◌, ◌++◌}
 use native.Mathlib.Omega.{arith}
 use borrow.Author.Tests.{lt-ltb}
 use Rattle.ground.specs.Choice.{if_zero}
+use Rattle.std.specs.Prelude.{Ok}
+use Rattle.refusal.specs.Refusal.{answered}
 use Rattle.rota.specs.Line.{places}
 use Rattle.rota.specs.Plan.{Plan, start}
 use Rattle.rota.specs.Asking.{ask_refusal, ask_place, joined}
@@ -13,18 +15,15 @@ use Rattle.rota.specs.Turning.{due, moved_on}
 use Rattle.rota.specs.Record.{unbroken, rota_of, ask_number, rota_asked, turn_number, rota_turned}
 use Rattle.rota.specs.Steps.{Step, ask, turn, other, turns, rota_step, rota_run, rota_at, due_at}
 use Rattle.rota.specs.declared.Rota.{Rota}
-use Rattle.rota.specs.declared.Place.TheVariants.{Given, Refused as NoPlace}
-use Rattle.rota.specs.declared.RotaAsked.{RotaAsked}
-use Rattle.rota.specs.declared.RotaTurned.{RotaTurned}
+use Rattle.rota.specs.Answer.{RotaAsked, RotaTurned}
 use Rattle.rota.proofs.Lines.{list_said, said_sound}
 use Rattle.rota.proofs.Plans.{Sound, start_sound, ask_sound, turn_sound, ask_after}
 
 -- ---- one call
 
--- the answer to an ask, by the number of its refusal
+-- what an ask leaves, by the number of its refusal
 abbrev pub answer_by : Plan → ℕ → ℕ → RotaAsked
-answer_by p b number =
-    if_zero number (record { place = Given (ask_place p b); rota = rota_of (joined p b) }) (record { place = NoPlace number; rota = rota_of p })
+answer_by p b number = record { place = answered number (ask_place p b); rota = if_zero number (rota_of (joined p b)) (rota_of p) }
 
 module _ (n : ℕ) (p : Plan) (s : Sound places n p) where
   rota_unbroken : unbroken n (rota_of p) ≡ true
@@ -35,7 +34,7 @@ module _ (n : ℕ) (p : Plan) (s : Sound places n p) where
   unfolding rota_asked ask_number
   rota_asked_is b = rw (rota_unbroken, list_said places p.asks)
 
-  pub rota_turned_is : rota_turned n (rota_of p) ≡ record { due = due p; rota = rota_of (moved_on n p) }
+  pub rota_turned_is : rota_turned n (rota_of p) ≡ record { due = Ok (due p); rota = rota_of (moved_on n p) }
   unfolding rota_turned turn_number
   rota_turned_is = rw (rota_unbroken, list_said places p.asks)
 
@@ -48,10 +47,10 @@ module _ (n : ℕ) (p : Plan) (s : Sound places n p) where
       go (suc v) = refl
 
   -- an ask that is given a place is not refused, and the place is the plan's
-  pub rota_asked_given : (b k : ℕ) → (rota_asked n (rota_of p) b).place ≡ Given k → (ask_refusal places n p b ≡ 0) × (ask_place p b ≡ k)
+  pub rota_asked_given : (b k : ℕ) → (rota_asked n (rota_of p) b).place ≡ Ok k → (ask_refusal places n p b ≡ 0) × (ask_place p b ≡ k)
   rota_asked_given b k e = go (ask_refusal places n p b) refl (rw rota_asked_is at e)
     where
-      go : (v : ℕ) → ask_refusal places n p b ≡ v → (answer_by p b v).place ≡ Given k → (ask_refusal places n p b ≡ 0) × (ask_place p b ≡ k)
+      go : (v : ℕ) → ask_refusal places n p b ≡ v → (answer_by p b v).place ≡ Ok k → (ask_refusal places n p b ≡ 0) × (ask_place p b ≡ k)
       go zero z e = (z, cc)
       go (suc v) z e = let w : ◌≡◌ {A = ℕ} 0 1 = cc in absurd (omega arith)
 
@@ -112,5 +111,5 @@ module _ {Other : Type 0} where
       pub rota_runs : (l : List (Step Other)) → rota_at n l ≡ rota_of (plan_at l)
       rota_runs l = run_runs l start (start_sound places n some)
 
-      pub due_runs : (l : List (Step Other)) → due_at n l ≡ due (plan_at l)
+      pub due_runs : (l : List (Step Other)) → due_at n l ≡ Ok (due (plan_at l))
       due_runs l = ap (λ (r : Rota). (rota_turned n r).due) (rota_runs l) ∙ ap (λ (t : RotaTurned). t.due) (rota_turned_is n (plan_at l) (plan_sound l))

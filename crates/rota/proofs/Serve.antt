@@ -3,11 +3,10 @@ use Prim.Native.Nat.{ℕ, suc}
 use mathlib.Core.Path.{◌≡◌, refl}
 use mathlib.Core.List.{List, [], ◌∷◌}
 use lib.ListN.{drop}
-use Rattle.rota.specs.Line.{places}
+use Rattle.std.specs.Prelude.{Some}
+use Rattle.rota.specs.Line.{places, first_of}
 use Rattle.rota.specs.Plan.{Plan}
-use Rattle.rota.specs.Turning.{due_of}
 use Rattle.rota.specs.Steps.{Step, ask, turn, other, tick, turns}
-use Rattle.rota.specs.declared.Due.TheVariants.{Two}
 use Rattle.rota.proofs.Waiting.{Stands, first, behind, stands_more}
 use Rattle.rota.proofs.Plans.{ask_adds}
 use Rattle.rota.proofs.Runs.{plan_step, plan_run}
@@ -15,8 +14,8 @@ use Rattle.rota.proofs.Runs.{plan_step, plan_run}
 stands_up : {b k : ℕ} {l : List ℕ} → Stands b (suc k) l → Stands b k (drop 1 l)
 stands_up (behind s) = s
 
-pub stands_first : {b : ℕ} {l : List ℕ} (next : ℕ) → Stands b 0 l → due_of next l ≡ Two next b
-stands_first next first = refl
+pub stands_first : {b : ℕ} {l : List ℕ} → Stands b 0 l → first_of l ≡ Some b
+stands_first first = refl
 
 module _ {Other : Type 0} (n : ℕ) where
   -- a turn moves the block up, and no other step moves it

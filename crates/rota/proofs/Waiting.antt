@@ -6,7 +6,7 @@ use mathlib.Core.List.{List, [], ◌∷◌, ◌++◌}
 use native.Mathlib.Omega.{arith}
 use lib.ListN.{length}
 use lib.Dec.{ltb, eqb}
-use borrow.Author.Tests.{eq-eqb, ne_eqb, eqb-true, eqb-false, le-ltb}
+use borrow.Author.Tests.{ne_eqb, eqb-true, eqb-false, le-ltb}
 use Rattle.ground.proofs.Bools.{both}
 use Rattle.rota.specs.Line.{further, place, below, none_twice}
 
@@ -21,7 +21,7 @@ place_zero b a l e = go (eqb a b) (place b l) e
     go false zero e = (refl, refl)
     go false (suc k) e = absurd (omega arith)
 
-pub place_snoc : (b a : ℕ) (l : List ℕ) → place b l ≡ 0 → eqb a b ≡ false → place b (l ++ a ∷ []) ≡ 0
+place_snoc : (b a : ℕ) (l : List ℕ) → place b l ≡ 0 → eqb a b ≡ false → place b (l ++ a ∷ []) ≡ 0
 unfolding place
 place_snoc b a [] e f = rw f
 place_snoc b a (c ∷ l) e f = let z = place_zero b c l e in rw (z.0, place_snoc b a l z.1 f)
@@ -41,11 +41,6 @@ once_snoc b (c ∷ l) e f =
     rw (place_snoc c b l (eqb-true _ _ z.0) q, once_snoc b l z.1 w.1)
 
 -- ---- a block in the midst
-
-pub place_found : (b : ℕ) (xs ys : List ℕ) → place b xs ≡ 0 → place b (xs ++ b ∷ ys) ≡ suc (length xs)
-unfolding place
-place_found b [] ys e = rw (eq-eqb b b refl)
-place_found b (a ∷ xs) ys e = let z = place_zero b a xs e in rw (z.0, place_found b xs ys z.1)
 
 place_there : (b : ℕ) (xs ys : List ℕ) → place b (xs ++ b ∷ ys) ≡ 0 → ⊥
 place_there b [] ys e = eqb-false b b (place_zero b b ys e).0 refl

@@ -2,6 +2,7 @@ pub mod Line
 pub mod Plan
 pub mod Asking
 pub mod Turning
+pub mod Answer
 pub mod Record
 pub mod Broken
 pub mod Reason

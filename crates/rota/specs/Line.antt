@@ -1,7 +1,8 @@
 -- A line holds the blocks that are asked for, the next one first, in an array of some places: its capacity. Places are counted from 1;
 -- 0 stands for no place. A line is sound for n where no more wait than it has places, every block that waits is below n, none waits
 -- twice, and the unused places hold 0. Assumes nothing.
-use Rattle.std.specs.Prelude.{ℕ, zero, suc, ◌-◌, Bool, true, false, cond, ◌&&◌, ◌≡◌, List, [], ◌∷◌, ◌++◌, length, take, drop, replicate, ltb, leb, eqb}
+use Rattle.std.specs.Prelude.{ℕ, zero, suc, ◌-◌, Bool, true, false, cond, ◌&&◌, ◌≡◌, ltb, leb, eqb, Option, Some, None}
+use Rattle.std.specs.Prelude.{List, [], ◌∷◌, ◌++◌, length, take, drop, replicate}
 use Rattle.rota.specs.declared.line.Line.{Line}
 
 -- the capacity of the rota's line
@@ -19,6 +20,19 @@ further (suc place) = suc (suc place)
 unfoldable pub place : ℕ → List ℕ → ℕ
 place block [] = zero
 place block (first ∷ rest) = cond (eqb first block) 1 (further (place block rest))
+
+-- the same, where there is one
+abbrev pub some_place : ℕ → Option ℕ
+some_place zero = None
+some_place (suc place) = Some (suc place)
+
+abbrev pub place_of : ℕ → List ℕ → Option ℕ
+place_of block asks = some_place (place block asks)
+
+-- the block at place 1
+abbrev pub first_of : List ℕ → Option ℕ
+first_of [] = None
+first_of (first ∷ rest) = Some first
 
 -- does any block wait
 abbrev pub some? : List ℕ → Bool

@@ -1,40 +1,33 @@
 -- An accepted call answers number 0. A refusal answers its number, and then the place and the blocks are 0; so is the second block
 -- where no ask is served. Assumes nothing.
-use Rattle.std.specs.Prelude.{ℕ, Bool, true, false, List, [], ◌∷◌}
-use Rattle.rota.specs.declared.Place.{Place}
-use Rattle.rota.specs.declared.Place.TheVariants.{Given, Refused as NoPlace}
+use Rattle.std.specs.Prelude.{ℕ, Bool, false, List, [], ◌∷◌, Result, Ok, Err, is_some, unwrap_or}
+use Rattle.refusal.specs.declared.Refusal.{Refusal}
+use Rattle.refusal.specs.Refusal.{answer_number}
 use Rattle.rota.specs.declared.Due.{Due}
-use Rattle.rota.specs.declared.Due.TheVariants.{One, Two, Refused as NoneDue}
 
-abbrev pub place_number : Place → ℕ
-place_number (NoPlace number) = number
-place_number (Given place) = 0
+abbrev pub place_number : Result ℕ Refusal → ℕ
+place_number place = answer_number place
 
-abbrev pub place_given : Place → ℕ
-place_given (NoPlace number) = 0
-place_given (Given place) = place
+abbrev pub place_given : Result ℕ Refusal → ℕ
+place_given (Ok place) = place
+place_given (Err refusal) = 0
 
 -- the place that an ask got as words, and 0 where it got none
-abbrev pub place_words : Place → List ℕ
+abbrev pub place_words : Result ℕ Refusal → List ℕ
 place_words place = place_given place ∷ []
 
-abbrev pub due_number : Due → ℕ
-due_number (NoneDue number) = number
-due_number (One first) = 0
-due_number (Two first second) = 0
+abbrev pub due_number : Result Due Refusal → ℕ
+due_number due = answer_number due
 
-abbrev pub first_block : Due → ℕ
-first_block (NoneDue number) = 0
-first_block (One first) = first
-first_block (Two first second) = first
+abbrev pub first_block : Result Due Refusal → ℕ
+first_block (Ok due) = due.patrol
+first_block (Err refusal) = 0
 
-abbrev pub second_block : Due → ℕ
-second_block (NoneDue number) = 0
-second_block (One first) = 0
-second_block (Two first second) = second
+abbrev pub second_block : Result Due Refusal → ℕ
+second_block (Ok due) = unwrap_or due.ask 0
+second_block (Err refusal) = 0
 
 -- whether an ask is served
-abbrev pub served : Due → Bool
-served (NoneDue number) = false
-served (One first) = false
-served (Two first second) = true
+abbrev pub served : Result Due Refusal → Bool
+served (Ok due) = is_some due.ask
+served (Err refusal) = false

@@ -1,13 +1,13 @@
 -- The patrol over a memory: memory and record go from step to step as values, and a turn visits the blocks that are due.
 -- Assumes nothing.
-use Rattle.std.specs.Prelude.{ℕ, ◌≤◌, ◌≡◌, List, [], ◌∷◌, ◌++◌}
+use Rattle.std.specs.Prelude.{ℕ, ◌≤◌, ◌≡◌, List, [], ◌∷◌, ◌++◌, Option, Some, None, Result, Ok, Err}
+use Rattle.refusal.specs.declared.Refusal.{Refusal}
 use Rattle.rota.specs.Record.{fresh, rota_turned}
 use Rattle.rota.specs.Steps.{Step, ask, turn, other, turns, rota_step}
 use Rattle.rota.specs.Touches.{Touch, write, read, visit, flip, nothing}
 use Rattle.rota.specs.Memory.{Memory}
 use Rattle.rota.specs.declared.Rota.{Rota}
 use Rattle.rota.specs.declared.Due.{Due}
-use Rattle.rota.specs.declared.Due.TheVariants.{Refused, One, Two}
 
 module _ {n : ℕ} (M : Memory n) where
   abbrev pub StepOf : Type 0
@@ -21,10 +21,13 @@ module _ {n : ℕ} (M : Memory n) where
   touched nothing m = m
 
   -- the patrol's block first, then the ask's
-  abbrev pub visited : Due → M.State → M.State
-  visited (Refused number) m = m
-  visited (One first) m = M.visit first m
-  visited (Two first second) m = M.visit second (M.visit first m)
+  abbrev pub ask_visited : Option ℕ → M.State → M.State
+  ask_visited None m = m
+  ask_visited (Some block) m = M.visit block m
+
+  abbrev pub visited : Result Due Refusal → M.State → M.State
+  visited (Ok due) m = ask_visited due.ask (M.visit due.patrol m)
+  visited (Err refusal) m = m
 
   -- the memory after a step, and after a list of steps
   abbrev pub memory_step : StepOf → Rota → M.State → M.State

@@ -1,6 +1,7 @@
 -- A list of steps: asks, turns, and others, of which the record knows nothing. The record goes from step to step as a value.
 -- Assumes nothing.
-use Rattle.std.specs.Prelude.{ℕ, suc, List, [], ◌∷◌}
+use Rattle.std.specs.Prelude.{ℕ, suc, List, [], ◌∷◌, Result}
+use Rattle.refusal.specs.declared.Refusal.{Refusal}
 use Rattle.rota.specs.Record.{fresh, rota_asked, rota_turned}
 use Rattle.rota.specs.declared.Rota.{Rota}
 use Rattle.rota.specs.declared.Due.{Due}
@@ -38,5 +39,5 @@ module _ {Other : Type 0} where
     abbrev pub rota_at : List (Step Other) → Rota
     rota_at steps = rota_run steps fresh
 
-    abbrev pub due_at : List (Step Other) → Due
+    abbrev pub due_at : List (Step Other) → Result Due Refusal
     due_at steps = (rota_turned n (rota_at steps)).due

@@ -3,48 +3,26 @@
 
 mod line;
 
-ghost use Rattle.std.specs.Prelude.{◌≡◌, cond, ◌<◌, length, ltb};
-ghost use Rattle.rota.specs.Line.{places};
+ghost use Rattle.std.specs.Prelude.{◌≡◌, ◌<◌};
 ghost use Rattle.rota.specs.Turning.{onward};
-ghost use Rattle.rota.specs.Record.{unbroken, rota_asked};
-ghost use Rattle.rota.specs.Numbers.{place_given};
+ghost use Rattle.rota.specs.Record.{unbroken};
 ghost use Rattle.rota.specs.Calls.{IsFresh, RotaAsks, RotaTurns};
 
 pub use line::{Line, PLACES};
-use line::{place_in, sound};
+use refusal::Refusal;
 
-// The record: the block that is next, and the line of the blocks that are asked for.
-#[derive(Clone, Copy)]
+// The record: the block that is next, and the line of those that are asked for. It comes from C and may hold anything: no invariant.
+#[derive(Clone, Copy, Debug, PartialEq, Eq)]
 pub struct Rota {
     pub next: u32,
     pub line: Line,
 }
 
-// What an ask answers: the number of its refusal, or the place.
-#[derive(Clone, Copy)]
-pub enum Place {
-    Refused(u32),
-    Given(u32),
-}
-
-#[derive(Clone, Copy)]
-pub struct RotaAsked {
-    pub place: Place,
-    pub rota: Rota,
-}
-
-// What a turn answers: the number of its refusal, or the patrol's block, and then the ask's block if one is served.
-#[derive(Clone, Copy)]
-pub enum Due {
-    Refused(u32),
-    One(u32),
-    Two(u32, u32),
-}
-
-#[derive(Clone, Copy)]
-pub struct RotaTurned {
-    pub due: Due,
-    pub rota: Rota,
+// Whose turn it is: the patrol's block, and then the ask's where one is served. A report has visits in their place: one generic type would be no plainer.
+#[derive(Clone, Copy, Debug, PartialEq, Eq)]
+pub struct Due {
+    pub patrol: u32,
+    pub ask: Option<u32>,
 }
 
 impl Rota {
@@ -58,100 +36,45 @@ impl Rota {
         }
     }
 
-    // Puts a block on the line, for a patrol of `n` blocks.
-    pub fn ask(self, n: u32, block: u32) -> RotaAsked
-        ensures { RotaAsks n self block result }
+    // Puts a block on the line, for a patrol of `n` blocks, and answers its place.
+    pub fn ask(&mut self, n: u32, block: u32) -> Result<u32, Refusal>
+        ensures { RotaAsks n self.old block result self.new }
     {
-        let next = self.next;
-        let line = self.line;
-        // One array, lent and changed in place: the compiler takes each copy of it apart word by word.
-        let mut asks = line.asks;
-        let place = self.join(&mut asks, n, block);
-        let waiting = waiting_after(line.waiting, place);
-        RotaAsked {
-            place,
-            rota: Rota {
-                next,
-                line: Line { waiting, asks },
-            },
+        if !self.unbroken(n) {
+            return Err(Refusal::BrokenRecord);
         }
-    }
-
-    // Answers an ask, and puts its block behind the line's `asks` where it has no place yet.
-    fn join(self, asks: &mut [u32; PLACES], n: u32, block: u32) -> Place
-        requires { asks.old ≡ self.line.asks }
-        ensures { (result ≡ (rota_asked n self block).place) × (asks.new ≡ (rota_asked n self block).rota.line.asks) }
-    {
-        let line = self.line;
-        let waiting = line.waiting;
-        if unbroken(self.next, waiting, asks, n) {
-            if n <= block {
-                return Place::Refused(6);
-            }
-            let count = waiting as usize;
-            let at = place_in(asks, count, block) as u32;
-            if at != 0 {
-                return Place::Given(at);
-            }
-            if PLACES <= count {
-                return Place::Refused(8);
-            }
-            asks[count] = block;
-            return Place::Given(waiting + 1);
+        if n <= block {
+            return Err(Refusal::NoBlock);
         }
-        Place::Refused(5)
+        if let Some(place) = self.line.place(block) {
+            return Ok(place);
+        }
+        if self.line.is_full() {
+            return Err(Refusal::LineFull);
+        }
+        self.line.push(block);
+        Ok(self.line.waiting)
     }
 
     // The blocks whose turn it is, in a patrol of `n` blocks.
-    pub fn turn(self, n: u32) -> RotaTurned
-        ensures { RotaTurns n self result }
+    pub fn turn(&mut self, n: u32) -> Result<Due, Refusal>
+        ensures { RotaTurns n self.old result self.new }
     {
-        let first = self.next;
-        let line = self.line;
-        let asks = line.asks;
-        if unbroken(first, line.waiting, &asks, n) {
-            let next = onward(first, n);
-            if line.waiting == 0 {
-                return RotaTurned {
-                    due: Due::One(first),
-                    rota: Rota { next, line },
-                };
-            }
-            let second = asks[0];
-            let rest = line.moved_up();
-            return RotaTurned {
-                due: Due::Two(first, second),
-                rota: Rota { next, line: rest },
-            };
+        if !self.unbroken(n) {
+            return Err(Refusal::BrokenRecord);
         }
-        RotaTurned {
-            due: Due::Refused(5),
-            rota: self,
-        }
+        let patrol = self.next;
+        self.next = onward(patrol, n);
+        let ask = self.line.take_first();
+        Ok(Due { patrol, ask })
     }
-}
 
-// How many wait after an ask: a place behind the last one is new.
-fn waiting_after(waiting: u32, place: Place) -> u32
-    ensures { result ≡ cond (ltb waiting (place_given place)) (place_given place) waiting }
-{
-    if let Place::Given(at) = place {
-        if waiting < at {
-            return at;
-        }
+    // Whether a patrol of `n` blocks can have this record.
+    fn unbroken(&self, n: u32) -> bool
+        ensures { result ≡ unbroken n self.now }
+    {
+        self.next < n && self.line.sound(n)
     }
-    waiting
-}
-
-// Whether a patrol of `n` blocks can have this record.
-fn unbroken(next: u32, waiting: u32, asks: &[u32; PLACES], n: u32) -> bool
-    requires { length asks.now ≡ places }
-    ensures { result ≡ unbroken n (record { next = next; line = record { waiting = waiting; asks = asks.now } }) }
-{
-    if n <= next {
-        return false;
-    }
-    sound(waiting, asks, n)
 }
 
 // The block after `block`, round `n` blocks.

@@ -1,13 +1,13 @@
 // A line of asks: the blocks that wait for a turn of their own, in an array of PLACES places.
-ghost use Rattle.std.specs.Prelude.{◌≡◌, ◌&&◌, [], ◌≤◌, ◌<◌, length, take, drop};
-ghost use Rattle.rota.specs.Line.{places, place, below, none_twice, zeros};
-ghost use Rattle.rota.specs.Line.{sound, line_of, shorter, Tidy};
+ghost use Rattle.std.specs.Prelude.{◌≡◌, ◌&&◌, [], ◌≤◌, ◌<◌, ◌+◌, length, option_map, IfSome};
+ghost use Rattle.rota.specs.Line.{places, place_of, first_of, below, none_twice, zeros};
+ghost use Rattle.rota.specs.Line.{asks_of, unused_of, full, sound, line_of, longer, shorter, Tidy};
 
 // How many blocks may wait.
 pub const PLACES: usize = 16;
 
-// How many blocks wait, and which, the next one first.
-#[derive(Clone, Copy)]
+// How many blocks wait, and which, the next one first. An array and a count, as C hands them in: no heap, and no invariant.
+#[derive(Clone, Copy, Debug, PartialEq, Eq)]
 pub struct Line {
     pub waiting: u32,
     pub asks: [u32; PLACES],
@@ -20,92 +20,100 @@ impl Line {
     {
         Line {
             waiting: 0,
-            asks: [0u32; PLACES],
+            asks: [0; PLACES],
         }
     }
 
-    // The first block leaves, every other moves up by one place, and the last place holds 0.
-    pub(crate) fn moved_up(self) -> Line
-        requires { Tidy places self × (0 < self.waiting) }
-        ensures { result ≡ shorter places self }
+    // Whether a patrol of `n` blocks can have this line.
+    pub(crate) fn sound(&self, n: u32) -> bool
+        ensures { result ≡ sound places n self.now }
     {
-        // In place: the compiler keeps one array whole, and takes a copy to another apart word by word.
-        let mut asks = self.asks;
-        let mut i = 0;
-        while i < PLACES - 1 {
-            asks[i] = asks[i + 1];
-            i += 1;
-        }
-        asks[PLACES - 1] = 0;
-        Line {
-            waiting: self.waiting - 1,
-            asks,
-        }
-    }
-}
-
-// Whether a patrol of `n` blocks can have this line.
-pub(crate) fn sound(waiting: u32, asks: &[u32; PLACES], n: u32) -> bool
-    requires { length asks.now ≡ places }
-    ensures { result ≡ sound places n (record { waiting = waiting; asks = asks.now }) }
-{
-    let count = waiting as usize;
-    if PLACES < count {
-        return false;
-    }
-    if in_order(asks, count, n) {
-        unused(asks, count)
-    } else {
-        false
-    }
-}
-
-// The place of a block among the first `count`, from 1; 0 where it is not there.
-pub(crate) fn place_in(asks: &[u32; PLACES], count: usize, block: u32) -> usize
-    requires { (length asks.now ≡ places) × (count ≤ places) }
-    ensures { result ≡ place block (take count asks.now) }
-{
-    let mut i = 0;
-    while i < count {
-        if asks[i] == block {
-            return i + 1;
-        }
-        i += 1;
-    }
-    0
-}
-
-// Whether the first `count` blocks are below `n` and no two are the same.
-fn in_order(asks: &[u32; PLACES], count: usize, n: u32) -> bool
-    requires { (length asks.now ≡ places) × (count ≤ places) }
-    ensures { result ≡ (below n (take count asks.now) && none_twice (take count asks.now)) }
-{
-    let mut i = 0;
-    while i < count {
-        let block = asks[i];
-        if n <= block {
+        if PLACES < self.waiting as usize {
             return false;
         }
-        let earlier = place_in(asks, i, block);
-        if earlier != 0 {
-            return false;
-        }
-        i += 1;
+        self.in_order(n) && self.unused()
     }
-    true
+
+    // The place of a block that waits, from 1.
+    pub(crate) fn place(&self, block: u32) -> Option<u32>
+        requires { self.now.waiting ≤ places }
+        ensures { result ≡ place_of block (asks_of self.now) }
+    {
+        let at = index_of(self.waits(), block)?;
+        Some(at as u32 + 1)
+    }
+
+    // Whether every place is in use.
+    pub(crate) fn is_full(&self) -> bool
+        ensures { result ≡ full places (asks_of self.now) }
+    {
+        PLACES <= self.waiting as usize
+    }
+
+    // One block more, behind the others.
+    pub(crate) fn push(&mut self, block: u32)
+        requires { Tidy places self.old × (self.old.waiting < places) }
+        ensures { self.new ≡ longer places self.old block }
+    {
+        self.asks[self.waiting as usize] = block;
+        self.waiting += 1;
+    }
+
+    // The first block leaves, if there is one: every other moves up by one place, and the last place holds 0.
+    pub(crate) fn take_first(&mut self) -> Option<u32>
+        requires { Tidy places self.old }
+        ensures { (result ≡ first_of (asks_of self.old)) × (self.new ≡ shorter places self.old) }
+    {
+        if self.waiting == 0 {
+            return None;
+        }
+        let first = self.asks[0];
+        self.asks.copy_within(1.., 0);
+        self.asks[PLACES - 1] = 0;
+        self.waiting -= 1;
+        Some(first)
+    }
+
+    // The blocks that wait.
+    fn waits(&self) -> &[u32]
+        requires { self.now.waiting ≤ places }
+        ensures { result.now ≡ asks_of self.now }
+    {
+        &self.asks[..self.waiting as usize]
+    }
+
+    // Whether every block that waits is below `n` and no two are the same.
+    fn in_order(&self, n: u32) -> bool
+        requires { self.now.waiting ≤ places }
+        ensures { result ≡ (below n (asks_of self.now) && none_twice (asks_of self.now)) }
+    {
+        let waits = self.waits();
+        for (i, &block) in waits.iter().enumerate() {
+            if n <= block {
+                return false;
+            }
+            if index_of(&waits[..i], block).is_some() {
+                return false;
+            }
+        }
+        true
+    }
+
+    // Whether the places behind those that wait hold 0.
+    fn unused(&self) -> bool
+        requires { self.now.waiting ≤ places }
+        ensures { result ≡ zeros (unused_of self.now) }
+    {
+        self.asks[self.waiting as usize..]
+            .iter()
+            .all(|&place| place == 0)
+    }
 }
 
-// Whether the places from `count` on hold 0.
-fn unused(asks: &[u32; PLACES], count: usize) -> bool
-    requires { (length asks.now ≡ places) × (count ≤ places) }
-    ensures { result ≡ zeros (drop count asks.now) }
+// Where a block stands among these, from 0.
+fn index_of(blocks: &[u32], block: u32) -> Option<usize>
+    ensures place { option_map (λ i. i + 1) result ≡ place_of block blocks.now }
+    ensures bound { IfSome result (λ i. i < length blocks.now) }
 {
-    let mut i = PLACES;
-    while count < i {
-        i -= 1;
-        if asks[i] != 0 {
-            return false;
-        }
-    }
-    true
+    blocks.iter().position(|&one| one == block)
 }

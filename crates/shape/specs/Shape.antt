@@ -1,8 +1,20 @@
 -- Two shapes exist: shape 1 has 16 rows and 11 data words, shape 2 has 72 rows and 64 data words. Assumes nothing.
-use Rattle.std.specs.Prelude.{ℕ, suc, List, ◌≡◌}
+use Rattle.std.specs.Prelude.{ℕ, suc, List, ◌≡◌, Result, MatchResult}
 use Rattle.lane.specs.Rows.{data_rows}
+use Rattle.refusal.specs.declared.Refusal.{Refusal}
+use Rattle.refusal.specs.declared.Refusal.TheVariants.{NoShape}
 use Rattle.shape.specs.declared.Shape.{Shape}
 use Rattle.shape.specs.declared.Shape.TheVariants.{One, Two}
+
+-- the shapes are numbered 1 and 2
+abbrev pub shape_number : Shape → ℕ
+shape_number One = 1
+shape_number Two = 2
+
+-- the promise of try_from: the shape with a number, and no shape where none has it
+abbrev pub NumbersShape : ℕ → Result Shape Refusal → Type 0
+NumbersShape number answer =
+    MatchResult answer (λ shape. shape_number shape ≡ number) (λ refusal. (refusal ≡ NoShape) × (number ≡ 1 → ⊥) × (number ≡ 2 → ⊥))
 
 -- how many rows stand before the last
 abbrev pub before : Shape → ℕ

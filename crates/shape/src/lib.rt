@@ -1,12 +1,28 @@
 // The two shapes of a block: their rows and their data words, said once.
 #![tactic(auto)]
 
-ghost use Rattle.shape.specs.Shape.{CountsBefore, CountsRows, CountsWords};
+ghost use Rattle.shape.specs.Shape.{NumbersShape, CountsBefore, CountsRows, CountsWords};
 
-#[derive(Clone, Copy)]
+use refusal::Refusal;
+
+#[derive(Clone, Copy, Debug, PartialEq, Eq)]
 pub enum Shape {
     One,
     Two,
+}
+
+impl TryFrom<u32> for Shape {
+    type Error = Refusal;
+
+    ghost try_from_gives = { NumbersShape };
+
+    fn try_from(number: u32) -> Result<Shape, Refusal> {
+        match number {
+            1 => Ok(Shape::One),
+            2 => Ok(Shape::Two),
+            _ => Err(Refusal::NoShape),
+        }
+    }
 }
 
 // The rows before the last of the larger shape.

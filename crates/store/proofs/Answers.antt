@@ -1,39 +1,41 @@
 -- The specification's number and what is said tell the answers apart, so an answer that keeps a promise is the call's. Assumes nothing.
-use Prim.Native.Nat.{ℕ, zero, suc}
+use Prim.Native.Nat.{ℕ, zero, suc, ◌≤◌}
 use mathlib.Core.Path.{◌≡◌, refl, sym, ap, ◌∙◌}
-use native.Mathlib.Omega.{arith}
-use Rattle.block.specs.Verdict.{Said}
-use Rattle.block.proofs.Verdicts.{said_some, said_told}
-use Rattle.store.specs.declared.Answer.{Answer}
-use Rattle.store.specs.declared.Answer.TheVariants.{Refused, Stored, Found}
-use Rattle.store.specs.Answer.{answer_number, answer_said, answered, Answers}
+use Rattle.std.specs.Prelude.{Result, Ok, Err}
+use Rattle.refusal.specs.declared.Refusal.{Refusal}
+use Rattle.refusal.specs.Refusal.{number, numbered, answer_number, answered}
+use Rattle.refusal.proofs.Answered.{number_some, refusal_told, numbered_number, answered_number, answered_refused}
+use Rattle.block.specs.Verdict.{Said, unsaid}
+use Rattle.block.proofs.Verdicts.{said_told}
+use Rattle.store.specs.Answer.{Answer, Stored, answer_said, stored_said, Answers}
 
-pub answers_told : (a b : Answer) → (a ≡ Refused 0 → ⊥) → (b ≡ Refused 0 → ⊥) → answer_number a ≡ answer_number b → answer_said a ≡ answer_said b → a ≡ b
-answers_told (Refused m) (Refused n) p q e w = ap Refused e
-answers_told (Refused m) Stored p q e w = absurd (p (ap Refused e))
-answers_told (Refused m) (Found v) p q e w = absurd (p (ap Refused e))
-answers_told Stored (Refused n) p q e w = absurd (q (ap Refused (sym e)))
-answers_told Stored Stored p q e w = refl
-answers_told Stored (Found v) p q e w = absurd (said_some v (sym w))
-answers_told (Found u) (Refused n) p q e w = absurd (q (ap Refused (sym e)))
-answers_told (Found u) Stored p q e w = absurd (said_some u w)
-answers_told (Found u) (Found v) p q e w = ap Found (said_told u v w)
+module _ {A : Type 0} {said_in : Result A Refusal → Said} where
+  -- one answer has the numbers, where values are told apart by what they say
+  one_by : ((u v : A) → said_in (Ok u) ≡ said_in (Ok v) → u ≡ v) → {refusal : ℕ} {said : Said} (a b : Result A Refusal)
+      → Answers said_in refusal said a → Answers said_in refusal said b → a ≡ b
+  one_by tells (Ok u) (Ok v) p q = ap Ok (tells u v (p.says ∙ sym q.says))
+  one_by tells (Ok u) (Err s) p q = absurd (number_some s (q.number ∙ sym p.number))
+  one_by tells (Err r) (Ok v) p q = absurd (number_some r (p.number ∙ sym q.number))
+  one_by tells (Err r) (Err s) p q = ap Err (refusal_told r s (p.number ∙ sym q.number))
 
--- one answer has the numbers
-pub answers_one : {refusal : ℕ} {said : Said} (a b : Answer) → Answers refusal said a → Answers refusal said b → a ≡ b
-answers_one a b p q = answers_told a b p.numbered q.numbered (p.number ∙ sym q.number) (p.says ∙ sym q.says)
+  -- the answer by the number of its refusal has them, where refusals say nothing
+  pub answers_by : ((refusal : Refusal) → said_in (Err refusal) ≡ unsaid) → (n : ℕ) (value : A) → n ≤ 14
+      → Answers said_in n (said_in (Ok value)) (answered n value)
+  answers_by silent zero value known = record { number = refl; says = refl }
+  answers_by silent (suc n) value known = record { number = answered_number (suc n) value known; says = silent (numbered (suc n)) }
 
--- ---- a call that is refused: its number is the answer; and where it is not, what it found
+pub answers_told : (a b : Answer) → answer_number a ≡ answer_number b → answer_said a ≡ answer_said b → a ≡ b
+answers_told (Ok u) (Ok v) e w = ap Ok (said_told u v w)
+answers_told (Ok u) (Err s) e w = absurd (number_some s (sym e))
+answers_told (Err r) (Ok v) e w = absurd (number_some r e)
+answers_told (Err r) (Err s) e w = ap Err (refusal_told r s e)
 
-pub answers_by : (refusal : ℕ) (found : Answer) → answer_number found ≡ 0 → (found ≡ Refused 0 → ⊥)
-    → Answers refusal (answer_said found) (answered refusal found)
-answers_by zero found e p = record { number = e; says = refl; numbered = p }
-answers_by (suc refusal) found e p = record { number = refl; says = refl; numbered = λ z. let w : suc refusal ≡ 0 = ap answer_number z in omega arith }
+pub answers_one : {refusal : ℕ} {said : Said} (a b : Answer) → Answers answer_said refusal said a → Answers answer_said refusal said b → a ≡ b
+answers_one = one_by said_told
 
-pub answered_refused : (number : ℕ) (answer : Answer) → (number ≡ 0 → ⊥) → answered number answer ≡ Refused number
-answered_refused zero answer ne = absurd (ne refl)
-answered_refused (suc number) answer ne = refl
+pub stored_one : {refusal : ℕ} {said : Said} (a b : Stored) → Answers stored_said refusal said a → Answers stored_said refusal said b → a ≡ b
+stored_one = one_by (λ u v e. refl)
 
-pub answered_number : (number : ℕ) (answer : Answer) → answer_number answer ≡ 0 → answer_number (answered number answer) ≡ number
-answered_number zero answer e = e
-answered_number (suc number) answer e = refl
+-- a refusal is the answer with its number
+pub refused_answer : {A : Type 0} (refusal : Refusal) (value : A) → Err refusal ≡ answered (number refusal) value
+refused_answer refusal value = sym (answered_refused (number refusal) value (number_some refusal) ∙ ap Err (numbered_number refusal))

@@ -1,5 +1,5 @@
 -- Write and read are refused by the first of their rules; what holds where nothing is refused. Assumes nothing.
-use Prim.Native.Nat.{ℕ}
+use Prim.Native.Nat.{ℕ, ◌≤◌}
 use mathlib.Core.Bool.{not}
 use mathlib.Core.Path.{◌≡◌}
 use native.Mathlib.Omega.{arith}
@@ -11,7 +11,8 @@ use Rattle.layout.specs.declared.Layout.{Layout}
 use Rattle.layout.specs.Layout.{words_of}
 use Rattle.layout.specs.Refusal.{block_refusal}
 use Rattle.layout.specs.Reason.{block_rules}
-use Rattle.layout.proofs.Ladder.{block_first}
+use Rattle.layout.proofs.Ladder.{block_first, block_known}
+use Rattle.refusal.proofs.Answered.{rung_known, then_known}
 use Rattle.store.specs.Refusal.{list_rung, data_refusal}
 use Rattle.store.specs.Reason.{bad_list, data_rules}
 
@@ -29,6 +30,10 @@ module _ (len : ℕ) (layout : Layout) (block list : ℕ) where
         p.0,
         not_other list (words_of layout) (rung_passed (bad_list layout list) (list_rung layout list) (λ z. omega arith) (list_rung_lem layout list) p.1),
       )
+
+  pub data_known : data_refusal len layout block list ≤ 14
+  unfolding data_refusal
+  data_known = then_known _ _ (block_known layout len block) (rung_known 7 (not (eqb list (words_of layout))) 0 (omega arith) (omega arith))
 
   pub data_first : FirstOf (data_rules len layout block list) (data_refusal len layout block list)
   unfolding data_refusal

@@ -9,14 +9,16 @@ use Rattle.block.specs.declared.Verdict.{Verdict}
 use Rattle.block.specs.declared.Verdict.TheVariants.{Clean}
 use Rattle.shape.specs.Shape.{before, rows}
 use Rattle.ground.proofs.Stores.{length_stores, stores_hit, stores_same}
-use Rattle.ground.proofs.Choices.{refused_kept}
 use Rattle.ground.proofs.Lists.{get_or_list_of}
 use Rattle.ground.specs.Choice.{if_zero}
 use Rattle.block.specs.Block.{blank, lanes_lost, mended_lanes, mended_block, SameRows, data_into}
 use Rattle.block.specs.Verdict.{verdict_of}
 use Rattle.stored.specs.Stored.{complemented_in, complemented}
 use Rattle.stored.proofs.Forms.{length_complemented, row_complemented, complemented_twice}
+use Rattle.sums.specs.declared.Finding.{Finding}
+use Rattle.sums.specs.declared.Finding.TheVariants.{Clean as NoDoubt}
 use Rattle.sums.specs.Sums.{lying, sums_of, Looks}
+use Rattle.sums.proofs.Doubt.{clean_found, else_found}
 use Rattle.sums.proofs.Lying.{length_lying}
 use Rattle.block.specs.Sums.{CopiesData, Decides, MendsLanes}
 use Rattle.shape.proofs.Sizes.{rows_fit, before_lt}
@@ -86,20 +88,21 @@ module _ (image : List ℕ) (shape : Shape) (at s : ℕ) where
       row_complemented (lying shape image at s) k (omega (arith, length_lying shape image at s)) ∙ ap (complemented_in (suc k)) (lying_row k h)
       ∙ sym (row_complemented lain k (omega (arith, lain_size, rows_fit shape)))
 
-  module _ (inside : Inside (length image) (rows shape) at s) {lent after : List ℕ} {found : ℕ} (looked : Looks shape image at s lent found after) where
+  module _ (inside : Inside (length image) (rows shape) at s) where
     room : at + before shape * s < length image
     room = inside.1 (before shape) (omega arith)
 
     -- where no lane is doubtful the block is clean
-    pub clean_there : found ≡ 0 → Clean ≡ verdict_of shape (taken shape image at s)
-    clean_there none =
+    pub clean_there : {lent after : List ℕ} → Looks shape image at s lent NoDoubt after → Clean ≡ verdict_of shape (taken shape image at s)
+    clean_there looked =
         clean_verdict shape (taken shape image at s) read_long
-        (sym (doubt_alike shape (complemented (lying shape image at s)) (taken shape image at s) code_row) ∙ sym (looked.there room).0 ∙ none)
+        (sym (doubt_alike shape (complemented (lying shape image at s)) (taken shape image at s) code_row) ∙ clean_found shape image at s room looked)
 
-    -- and where one is the sums found are those of the rows that are read
-    pub sums_there : (found ≡ 0 → ⊥) → after ≡ sums_of shape (taken shape image at s)
-    sums_there some =
-        (looked.there room).1 ∙ refused_kept found lent (sums_of shape (complemented (lying shape image at s))) some
+    -- and where one is the sums kept are those of the rows that are read
+    pub sums_there : {lent after : List ℕ} {found : Finding} → Looks shape image at s lent found after → (found ≡ NoDoubt → ⊥)
+        → after ≡ sums_of shape (taken shape image at s)
+    sums_there looked some =
+        (else_found shape image at s room looked some).1
         ∙ sums_alike shape (complemented (lying shape image at s)) (taken shape image at s) code_row
 
     -- the data words that lie there are those of the rows that are read

@@ -1,44 +1,90 @@
--- What a turn of a copy stores, a row or four, where the rows lie, and what is asked of a copy. Assumes nothing.
-use Prim.Native.Nat.{ℕ, ◌+◌, ◌*◌, ◌%◌, ◌≤◌}
+-- What is copied of rows: none, four more, all at once where they are neighbours; and what of that is gathered or scattered. Assumes nothing.
+use Prim.Native.Nat.{ℕ, suc, ◌+◌, ◌*◌, ◌/◌, ◌-◌, ◌≤◌}
 use mathlib.Core.List.{List}
-use mathlib.Core.Path.{◌≡◌, refl}
+use mathlib.Core.Path.{◌≡◌, refl, sym, ap, ◌∙◌, fun_ext}
+use native.Mathlib.Nat.{one-mul, mul-one, add-mul}
+use native.Mathlib.Numerals.{towards_suc}
 use native.Mathlib.Omega.{arith}
-use native.Mathlib.Nat.{add-zero, zero-mul, one-mul, add-mul}
-use native.Mathlib.Numerals.{add-one, towards_suc}
-use lib.ListN.{get_or, set}
+use lib.ListN.{length, get_or, set, take, drop, length-take, length-drop}
+use lib.Seq.{get_or-take, get_or-drop}
+use borrow.Rule.Slice.PartMut.{put_mid}
+use Rattle.std.proofs.lemmas.Slice.{put_mid-paste}
 use Rattle.ground.specs.Stores.{stores}
+use Rattle.ground.proofs.Stores.{stores_agree, stores_paste}
 use Rattle.shape.specs.declared.Shape.{Shape}
 use Rattle.shape.specs.declared.Shape.TheVariants.{One, Two}
-use Rattle.shape.specs.Shape.{rows}
-use Rattle.store.specs.Inner.{Inside, FourInside, four_copied}
+use Rattle.shape.specs.Shape.{before, rows}
+use Rattle.stored.specs.Stored.{complemented}
+use Rattle.layout.specs.declared.Site.{Site}
+use Rattle.store.specs.declared.copies.Places.{Places}
+use Rattle.store.specs.Inner.{Lies, copied, places_of, stride_read, stride_write, put}
 
-module _ (at s k : ℕ) {i : ℕ} (there : i ≡ at + k * s) where
-  -- the rows from the k-th on
-  pub along : (j : ℕ) → i + j * s ≡ at + (k + j) * s
-  along j = omega (arith, add-mul k j s)
+-- neighbours lie in the list to the last
+pub beside_inside : (len : ℕ) (shape : Shape) (places : Places) → Lies len (rows shape) places → places.s ≡ 1 → places.at + rows shape ≤ len
+beside_inside len shape places there e = let last = rw e at (there.1 (before shape) (omega arith)) in omega arith
 
-  -- where four rows are left they lie in the image
-  pub four_inside : {len rows : ℕ} → Inside len rows at s → k + 4 ≤ rows → FourInside len i s
-  four_inside h left = omega (arith, h.1 (k + 3) (omega arith), along 3)
-
--- one store more than k, of what is to be stored where it is
-pub one_store : (d : List ℕ) (f v : ℕ → ℕ) (k : ℕ) {l : List ℕ} {f0 v0 : ℕ} → l ≡ stores d f v k → f0 ≡ f k → v0 ≡ v k → set l f0 v0 ≡ stores d f v (k + 1)
-unfolding stores
-one_store d f v k e p q = rw (e, p, q, add-one)
-
--- four stores more than n, of words that lie as the stores ask
-pub four_stores : (given d : List ℕ) (h f : ℕ → ℕ) (n i s k t : ℕ) {l : List ℕ} → l ≡ stores d f (λ j. get_or given (h j) 0) n
-    → ((j : ℕ) → i + j * s ≡ h (n + j)) → ((j : ℕ) → k + j * t ≡ f (n + j)) → four_copied given i s l k t ≡ stores d f (λ j. get_or given (h j) 0) (n + 4)
-unfolding stores
-four_stores given d h f n i s k t e p q =
-    rw (p 3, q 3, p 2, q 2, simp one-mul at (p 1), simp one-mul at (q 1), simp (zero-mul, add-zero) at (p 0), simp (zero-mul, add-zero) at (q 0), e)
-    (simp towards_suc)
-
--- the rows of a shape are whole turns
-pub whole_turns : (shape : Shape) → rows shape % 4 ≡ 0
+-- rows are whole turns
+pub whole_turns : (shape : Shape) → 4 * (rows shape / 4) ≡ rows shape
 whole_turns One = refl
 whole_turns Two = refl
 
--- what is asked of a copy by the rows' number and the stride that are told
-pub asked : (len at : ℕ) {count known s stride : ℕ} → count ≡ known → s ≡ stride → Inside len known at s → Inside len count at stride
-asked len at e f h = rw (e, ← f) h
+along : (places : Places) (turn j : ℕ) → places.at + 4 * turn * places.s + j * places.s ≡ places.at + (4 * turn + j) * places.s
+along places turn j = omega (arith, add-mul (4 * turn) j places.s)
+
+next : (places : Places) (turn : ℕ) → places.at + 4 * turn * places.s + places.s ≡ places.at + (4 * turn + 1) * places.s
+next places turn = simp one-mul at (along places turn 1)
+
+module _ (given : List ℕ) (read : Places) (list : List ℕ) (written : Places) where
+  pub none_copied : list ≡ copied given read list written 0
+  unfolding copied stores
+  none_copied = refl
+
+  -- a turn
+  pub four_copied : (turn : ℕ) {l : List ℕ} → l ≡ copied given read list written (4 * turn)
+      → let i = read.at + 4 * turn * read.s in
+      let k = written.at + 4 * turn * written.s in
+      set (set (set (set l k (get_or given i 0)) (k + written.s) (get_or given (i + read.s) 0)) (k + 2 * written.s) (get_or given (i + 2 * read.s) 0))
+      (k + 3 * written.s)
+      (get_or given (i + 3 * read.s) 0)
+      ≡ copied given read list written (4 * (turn + 1))
+  unfolding copied stores
+  four_copied turn e =
+      let more : 4 * (turn + 1) ≡ suc (suc (suc (suc (4 * turn)))) = omega arith in
+      rw (more, e, next written turn, along written turn 2, along written turn 3, next read turn, along read turn 2, along read turn 3) (simp towards_suc)
+
+  -- neighbours
+  pub all_copied : (shape : Shape) {count : ℕ} {part : List ℕ} → count ≡ rows shape → Lies (length given) (rows shape) read
+      → Lies (length list) (rows shape) written → read.s ≡ 1 → written.s ≡ 1
+      → part ≡ take (read.at + count - read.at) (drop read.at given)
+      → put_mid written.at (written.at + count - written.at) list part ≡ copied given read list written (rows shape)
+  unfolding copied
+  all_copied shape {count = count} known there room e f is =
+      let n = rows shape in
+      let shown = take n (drop read.at given) in
+      let inside = beside_inside (length given) shape read there e in
+      let fits = beside_inside (length list) shape written room f in
+      let long : length shown ≡ n = simp (length-take, length-drop) (omega arith) in
+      let whole : read.at + count - read.at ≡ n = omega arith in
+      put_mid-paste _ _ list _ shown n (is ∙ ap (λ (m : ℕ). take m (drop read.at given)) whole) (omega arith) (sym long)
+      ∙ sym (stores_paste list written.at shown n (omega arith) (omega arith))
+      ∙ rw (e, f) (simp mul-one
+      (stores_agree list (λ k. written.at + k) _ _ n (λ k h. get_or-take n (drop read.at given) k 0 h ∙ get_or-drop read.at given k 0)))
+
+-- ---- the array's rows are its first words
+
+abbrev in_array : Places
+in_array = record { at = 0; s = 1 }
+
+module _ (site : Site) {places : Places} (is : places ≡ places_of site) (image block : List ℕ) {after : List ℕ} where
+  pub gathered_first : after ≡ copied image places block in_array (rows site.shape) → after ≡ stride_read image site.at site.s block (rows site.shape)
+  unfolding copied stride_read
+  gathered_first e =
+      rw (e, is) (ap (λ (f : ℕ → ℕ). stores block f (λ k. get_or image (site.at + k * site.s) 0) (rows site.shape)) (fun_ext (λ k. omega arith)))
+
+  pub scattered_first : (code : List ℕ) → block ≡ complemented code → after ≡ copied block in_array image places (rows site.shape)
+      → after ≡ put site.shape image site.at site.s code
+  unfolding copied stride_write
+  scattered_first code stored e =
+      let first : (k : ℕ) → 0 + k * 1 ≡ k = λ k. omega arith in
+      rw (e, is, stored)
+      (ap (λ (f : ℕ → ℕ). stores image (λ k. site.at + k * site.s) (λ k. get_or (complemented code) (f k) 0) (rows site.shape)) (fun_ext first))

@@ -6,6 +6,8 @@ use Rattle.ground.specs.Lists.{list_of}
 use Rattle.layout.specs.declared.Layout.{Layout}
 use Rattle.layout.specs.Layout.{rows_of, blocks, row_at}
 use Rattle.layout.specs.Refusal.{image_refusal}
+use Rattle.refusal.specs.Refusal.{answer_number}
+use Rattle.store.specs.Answer.{Stored}
 
 -- the word at an index, by the row that it is
 abbrev pub fresh_word : Layout → ℕ → ℕ
@@ -19,7 +21,7 @@ fresh_image layout = list_of (rows_of layout * blocks layout) (fresh_word layout
 unfoldable pub fresh_after : List ℕ → Layout → List ℕ
 fresh_after image layout = if_zero (image_refusal (length image) layout) (fresh_image layout) image
 
--- the promise of fresh: the number of its refusal, or 0, and the image that it leaves
-pub record Clears (image : List ℕ) (layout : Layout) (number : ℕ) (after : List ℕ) : Type 0 where
-  pub answers : number ≡ image_refusal (length image) layout
+-- the promise of fresh: the refusal, if any, and the image that it leaves
+pub record Clears (image : List ℕ) (layout : Layout) (answer : Stored) (after : List ℕ) : Type 0 where
+  pub answers : answer_number answer ≡ image_refusal (length image) layout
   pub leaves : after ≡ fresh_after image layout

@@ -1,16 +1,20 @@
 -- What the code computes on its way: rows a stride apart. Assumes nothing.
-use Rattle.std.specs.Prelude.{ℕ, ◌+◌, ◌*◌, ◌≤◌, ◌<◌, List, get_or, set}
+use Rattle.std.specs.Prelude.{ℕ, ◌+◌, ◌*◌, ◌≤◌, ◌<◌, List, get_or}
 use Rattle.ground.specs.Stores.{stores}
 use Rattle.shape.specs.declared.Shape.{Shape}
 use Rattle.shape.specs.Shape.{rows}
 use Rattle.stored.specs.Stored.{complemented}
 use Rattle.block.specs.Block.{blank}
+use Rattle.layout.specs.declared.Site.{Site}
+use Rattle.store.specs.declared.copies.Places.{Places}
 
--- four words of the given, from i on and s apart, stored in the list from k on and t apart
-abbrev pub four_copied : (given : List ℕ) (i s : ℕ) (list : List ℕ) (k t : ℕ) → List ℕ
-four_copied given i s list k t =
-    set (set (set (set list k (get_or given i 0)) (k + t) (get_or given (i + s) 0)) (k + 2 * t) (get_or given (i + 2 * s) 0))
-    (k + 3 * t) (get_or given (i + 3 * s) 0)
+-- the places of the rows at a site
+abbrev pub places_of : Site → Places
+places_of site = record { at = site.at; s = site.s }
+
+-- the list with n of the given words, read from places a stride apart, written to others
+unfoldable pub copied : (given : List ℕ) (read : Places) (list : List ℕ) (written : Places) (n : ℕ) → List ℕ
+copied given read list written n = stores list (λ k. written.at + k * written.s) (λ k. get_or given (read.at + k * read.s) 0) n
 
 -- the block with its first n words taken from `at` on, s apart
 unfoldable pub stride_read : List ℕ → ℕ → ℕ → List ℕ → ℕ → List ℕ
@@ -31,6 +35,6 @@ put shape image at s given = stride_write image at s (complemented given) (rows 
 abbrev pub Inside : ℕ → ℕ → ℕ → ℕ → Type 0
 Inside len rows at s = (s ≤ 16) × ((k : ℕ) → k < rows → at + k * s < len)
 
--- the same of four words
-abbrev pub FourInside : (len at s : ℕ) → Type 0
-FourInside len at s = (s ≤ 16) × (at + s < len) × (at + 2 * s < len) × (at + 3 * s < len)
+-- the same of places
+abbrev pub Lies : (len rows : ℕ) → Places → Type 0
+Lies len rows places = Inside len rows places.at places.s

@@ -4,9 +4,8 @@ use Rattle.shape.specs.declared.Shape.{Shape}
 use Rattle.ground.specs.Choice.{if_zero}
 use Rattle.block.specs.Block.{lanes_lost, mended_block, data_of}
 use Rattle.block.specs.Verdict.{to_say, verdict_of}
-use Rattle.store.specs.declared.Answer.{Answer}
-use Rattle.store.specs.declared.Answer.TheVariants.{Found}
-use Rattle.store.specs.Answer.{Answers, answered}
+use Rattle.refusal.specs.Refusal.{answered}
+use Rattle.store.specs.Answer.{Answer, answer_said, Answers}
 use Rattle.store.specs.Image.{gathered}
 use Rattle.store.specs.Refusal.{data_refusal}
 use Rattle.layout.specs.declared.Layout.{Layout}
@@ -25,7 +24,7 @@ read_buffer image layout block buffer =
 
 -- the promise of read: what it answers, that it leaves the image, and the buffer that it leaves
 pub record Reads (image : List ℕ) (layout : Layout) (block : ℕ) (buffer : List ℕ) (answer : Answer) (kept after : List ℕ) : Type 0 where
-  pub answers : Answers (data_refusal (length image) layout block (length buffer)) (to_say (shape_of layout) (gathered layout block image)) answer
+  pub answers : Answers answer_said (data_refusal (length image) layout block (length buffer)) (to_say (shape_of layout) (gathered layout block image)) answer
   pub keeps : kept ≡ image
   pub leaves : after ≡ read_buffer image layout block buffer
 
@@ -33,4 +32,4 @@ pub record Reads (image : List ℕ) (layout : Layout) (block : ℕ) (buffer : Li
 unfoldable pub read_answer : List ℕ → Layout → ℕ → List ℕ → Answer
 read_answer image layout block buffer =
     answered (data_refusal (length image) layout block (length buffer))
-    (Found (verdict_of (shape_of layout) (gathered layout block image)))
+    (verdict_of (shape_of layout) (gathered layout block image))

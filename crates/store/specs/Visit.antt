@@ -5,9 +5,8 @@ use Rattle.block.specs.Block.{mended_block}
 use Rattle.block.specs.declared.Verdict.{Verdict}
 use Rattle.block.specs.declared.Verdict.TheVariants.{Clean}
 use Rattle.block.specs.Verdict.{said_of, to_say, verdict_of}
-use Rattle.store.specs.declared.Answer.{Answer}
-use Rattle.store.specs.declared.Answer.TheVariants.{Found}
-use Rattle.store.specs.Answer.{Answers, answered}
+use Rattle.refusal.specs.Refusal.{answered}
+use Rattle.store.specs.Answer.{Answer, answer_said, Answers}
 use Rattle.store.specs.Image.{gathered, placed}
 use Rattle.layout.specs.Refusal.{block_refusal}
 use Rattle.layout.specs.declared.Layout.{Layout}
@@ -22,7 +21,7 @@ visit_after image layout block =
 
 -- the promise of visit: what it answers, and the image that it leaves
 pub record Visits (image : List ℕ) (layout : Layout) (block : ℕ) (answer : Answer) (after : List ℕ) : Type 0 where
-  pub answers : Answers (block_refusal (length image) layout block) (to_say (shape_of layout) (gathered layout block image)) answer
+  pub answers : Answers answer_said (block_refusal (length image) layout block) (to_say (shape_of layout) (gathered layout block image)) answer
   pub leaves : after ≡ visit_after image layout block
 
 -- the promise of visit_accepted: what is said, clean 0 where the visit is refused, and the image that a visit leaves
@@ -34,4 +33,4 @@ pub record VisitsAccepted (image : List ℕ) (layout : Layout) (block : ℕ) (fo
 unfoldable pub visit_answer : List ℕ → Layout → ℕ → Answer
 visit_answer image layout block =
     answered (block_refusal (length image) layout block)
-    (Found (verdict_of (shape_of layout) (gathered layout block image)))
+    (verdict_of (shape_of layout) (gathered layout block image))

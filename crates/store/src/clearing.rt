@@ -2,17 +2,13 @@
 ghost use Rattle.store.specs.Fresh.{Clears};
 
 use layout::Layout;
+use refusal::Refusal;
 
-pub fn fresh(image: &mut [u32], layout: Layout) -> u32
+pub fn fresh(image: &mut [u32], layout: Layout) -> Result<(), Refusal>
     ensures { Clears image.old layout result image.new }
 {
-    let number = layout.check_image(image.len());
-    if number != 0 {
-        return number;
-    }
-    for i in 0..image.len() {
-        image[i] = 0;
-    }
+    layout.check_image(image.len())?;
+    image.fill(0);
     stored::complement_image(image, layout);
-    0
+    Ok(())
 }

@@ -1,113 +1,72 @@
 // A block's rows between the image, where they are stored words, and an array, where they are the code's: gathered, and scattered.
-// Neighbours are copied many at a time, others four a turn.
 // A shared image is lent on as `&*image`, which the compiler then passes in registers (docs/SPEED.md).
-ghost use Rattle.std.specs.Prelude.{◌≡◌, ◌+◌, ◌%◌, ◌≤◌, ◌<◌, length};
-ghost use Rattle.shape.specs.Shape.{most_rows, rows};
+ghost use Rattle.std.specs.Prelude.{◌≡◌, length};
+ghost use Rattle.shape.specs.Shape.{rows};
 ghost use Rattle.stored.specs.Stored.{complemented};
-ghost use Rattle.store.specs.Inner.{Inside, FourInside, four_copied, stride_read, stride_write, put};
+ghost use Rattle.store.specs.Inner.{Inside, Lies, copied, places_of, stride_read, put};
 
+use layout::Site;
 use shape::{MOST_ROWS, Shape, rows};
 
-// The words at `at`, `at + 1`, .., `rows` of them, into the first of the block.
-fn take_beside(image: &[u32], rows: usize, at: usize, block: &mut [u32; MOST_ROWS])
-    requires { (rows ≤ most_rows) × Inside (length image.now) rows at 1 }
-    ensures { block.new ≡ stride_read image.now at 1 block.old rows }
-{
-    for k in 0..rows {
-        block[k] = image[at + k];
-    }
-}
-
-// Four rows, the words at `i`, `i + s`, .., into the block's from `k` on.
-fn take_four(image: &[u32], i: usize, s: usize, block: &mut [u32; MOST_ROWS], k: usize)
-    requires { (k + 3 < most_rows) × FourInside (length image.now) i s }
-    ensures { block.new ≡ four_copied image.now i s block.old k 1 }
-{
-    block[k] = image[i];
-    block[k + 1] = image[i + s];
-    block[k + 2] = image[i + 2 * s];
-    block[k + 3] = image[i + 3 * s];
-}
-
-// The words at `at`, `at + s`, `at + 2 s`, .., `rows` of them, into the first of the block.
-fn take_apart(image: &[u32], rows: usize, at: usize, s: usize, block: &mut [u32; MOST_ROWS])
-    requires { (rows ≤ most_rows) × (rows % 4 ≡ 0) × Inside (length image.now) rows at s }
-    ensures { block.new ≡ stride_read image.now at s block.old rows }
-{
-    let mut i = at;
-    let mut k = 0;
-    while k < rows {
-        take_four(&*image, i, s, block, k);
-        i += 4 * s;
-        k += 4;
-    }
-}
-
-// The first `rows` words of the block at `at`, `at + 1`, ..
-fn put_beside(image: &mut [u32], rows: usize, at: usize, block: &[u32; MOST_ROWS])
-    requires { (rows ≤ most_rows) × Inside (length image.old) rows at 1 }
-    ensures { image.new ≡ stride_write image.old at 1 block.now rows }
-{
-    for k in 0..rows {
-        image[at + k] = block[k];
-    }
-}
-
-// Four rows of the block, from `k` on, to the words at `i`, `i + s`, ..
-fn put_four(image: &mut [u32], i: usize, s: usize, block: &[u32; MOST_ROWS], k: usize)
-    requires { (k + 3 < most_rows) × FourInside (length image.old) i s }
-    ensures { image.new ≡ four_copied block.now k 1 image.old i s }
-{
-    image[i] = block[k];
-    image[i + s] = block[k + 1];
-    image[i + 2 * s] = block[k + 2];
-    image[i + 3 * s] = block[k + 3];
-}
-
-// The first `rows` words of the block at `at`, `at + s`, `at + 2 s`, ..
-fn put_apart(image: &mut [u32], rows: usize, at: usize, s: usize, block: &[u32; MOST_ROWS])
-    requires { (rows ≤ most_rows) × (rows % 4 ≡ 0) × Inside (length image.old) rows at s }
-    ensures { image.new ≡ stride_write image.old at s block.now rows }
-{
-    let mut i = at;
-    let mut k = 0;
-    while k < rows {
-        put_four(image, i, s, block, k);
-        i += 4 * s;
-        k += 4;
-    }
-}
-
-// The rows of the block whose first row is at `at`, as the code has them, into the first of the block.
-pub(crate) fn gather(image: &[u32], shape: Shape, at: usize, s: usize, block: &mut [u32; MOST_ROWS])
-    requires { Inside (length image.now) (rows shape) at s }
-    ensures { block.new ≡ complemented (stride_read image.now at s block.old (rows shape)) }
-{
-    let count = rows(shape);
-    if s == 1 {
-        take_beside(&*image, count, at, block);
-    } else {
-        take_apart(&*image, count, at, s, block);
-    }
-    stored::complement_block(block);
-}
-
-// The code's block put where its first row is at `at`; the array holds the stored words then.
-pub(crate) fn scatter(
-    image: &mut [u32],
-    shape: Shape,
+// The words of rows in a list: the first at `at`, each `s` past the one before.
+#[derive(Clone, Copy)]
+struct Places {
     at: usize,
     s: usize,
-    block: &mut [u32; MOST_ROWS],
-)
-    requires { Inside (length image.old) (rows shape) at s }
-    ensures { image.new ≡ put shape image.old at s block.old }
+}
+
+// The rows of an array are its first words.
+const GATHERED: Places = Places { at: 0, s: 1 };
+
+// The rows of one list into those of another: neighbours at once, others four a turn.
+// A row a turn would take a write at s = 6 up to 65 instructions of 793 more, and a visit that mends up to 76 of 1,097.
+fn copy(shape: Shape, from: &[u32], read: Places, to: &mut [u32], written: Places)
+    requires { Lies (length from.now) (rows shape) read × Lies (length to.old) (rows shape) written }
+    ensures { to.new ≡ copied from.now read to.old written (rows shape) }
+{
+    let count = rows(shape);
+    if read.s == 1 && written.s == 1 {
+        let (i, k) = (read.at, written.at);
+        to[k..k + count].copy_from_slice(&from[i..i + count]);
+        return;
+    }
+    let (s, t) = (read.s, written.s);
+    // By index: a proof knows nothing of a list after a skip, step_by or zip of its iter_mut.
+    for turn in 0..count / 4 {
+        let (i, k) = (read.at + 4 * turn * s, written.at + 4 * turn * t);
+        to[k] = from[i];
+        to[k + t] = from[i + s];
+        to[k + 2 * t] = from[i + 2 * s];
+        to[k + 3 * t] = from[i + 3 * s];
+    }
+}
+
+impl From<Site> for Places {
+    ghost from_gives = { λ site given. given ≡ places_of site };
+
+    fn from(site: Site) -> Places {
+        Places {
+            at: site.at as usize,
+            s: site.s as usize,
+        }
+    }
+}
+
+// The rows of the block at a site, as the code has them, into the first of the block.
+// That the site lies inside is asked of each caller: it holds of a site and an image together, and mending changes the image.
+pub(crate) fn gather(image: &[u32], site: Site, block: &mut [u32; MOST_ROWS])
+    requires { Inside (length image.now) (rows site.shape) site.at site.s }
+    ensures { block.new ≡ complemented (stride_read image.now site.at site.s block.old (rows site.shape)) }
+{
+    copy(site.shape, &*image, Places::from(site), block, GATHERED);
+    stored::complement_block(block);
+}
+
+// The code's block put at a site; the array holds the stored words then.
+pub(crate) fn scatter(image: &mut [u32], site: Site, block: &mut [u32; MOST_ROWS])
+    requires { Inside (length image.old) (rows site.shape) site.at site.s }
+    ensures { image.new ≡ put site.shape image.old site.at site.s block.old }
 {
     stored::complement_block(block);
-    let count = rows(shape);
-    if s == 1 {
-        put_beside(image, count, at, block);
-    } else {
-        put_apart(image, count, at, s, block);
-    }
+    copy(site.shape, &*block, GATHERED, image, Places::from(site));
 }

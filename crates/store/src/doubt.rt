@@ -9,29 +9,29 @@ ghost use Rattle.store.specs.Inner.{Inside, taken};
 
 use super::copies::gather;
 use block::Verdict;
-use shape::{MOST_ROWS, Shape};
-use sums::SUM_WORDS;
+use layout::Site;
+use shape::MOST_ROWS;
+use sums::Sums;
 
 // What the block is, and its rows mended; where a lane is lost they are not taken out.
+// The rows are lent, as read and visit go on with them in place: as a value beside the verdict they would be no plainer.
 pub(crate) fn in_doubt(
     image: &[u32],
-    shape: Shape,
-    at: usize,
-    s: u32,
-    sums: &[u32; SUM_WORDS],
+    site: Site,
+    sums: &Sums,
     mended: &mut [u32; MOST_ROWS],
 ) -> Verdict
-    requires { Inside (length image.now) (rows shape) at s × (sums.now ≡ sums_of shape (taken shape image.now at s))
-        × (mended.old ≡ blank) }
-    ensures verdict { result ≡ verdict_of shape (taken shape image.now at s) }
-    ensures mended { mended.new ≡ if_zero (lanes_lost shape (taken shape image.now at s))
-        (mended_lanes shape (taken shape image.now at s)) blank }
+    requires { Inside (length image.now) (rows site.shape) site.at site.s
+        × (sums.now.words ≡ sums_of site.shape (taken site.shape image.now site.at site.s)) × (mended.old ≡ blank) }
+    ensures verdict { result ≡ verdict_of site.shape (taken site.shape image.now site.at site.s) }
+    ensures mended { mended.new ≡ if_zero (lanes_lost site.shape (taken site.shape image.now site.at site.s))
+        (mended_lanes site.shape (taken site.shape image.now site.at site.s)) blank }
 {
-    let verdict = block::decide(shape, sums);
+    let verdict = block::decide(site.shape, sums);
     if let Verdict::Lost(_, _) = verdict {
         return verdict;
     }
-    gather(&*image, shape, at, s as usize, mended);
-    block::mend(shape, mended, sums);
+    gather(&*image, site, mended);
+    block::mend(site.shape, mended, sums);
     verdict
 }

@@ -1,22 +1,18 @@
 // Write: the valid block for a lent list of data words.
 ghost use Rattle.store.specs.Write.{Writes};
 
-use super::Answer;
 use super::copies::scatter;
-use layout::{Layout, Site};
+use layout::Layout;
+use refusal::Refusal;
 
-pub fn write(image: &mut [u32], layout: Layout, block: u32, list: &[u32]) -> Answer
+pub fn write(image: &mut [u32], layout: Layout, block: u32, list: &[u32]) -> Result<(), Refusal>
     ensures { Writes image.old layout block list.now result image.new }
 {
-    match layout.locate(image.len(), block) {
-        Site::Nowhere(number) => Answer::Refused(number),
-        Site::At(shape, at) => {
-            if list.len() != shape::words(shape) {
-                return Answer::Refused(7);
-            }
-            let mut valid = block::encode(shape, list);
-            scatter(image, shape, at, layout.s as usize, &mut valid);
-            Answer::Stored
-        }
+    let site = layout.locate(image.len(), block)?;
+    if list.len() != shape::words(site.shape) {
+        return Err(Refusal::BadList);
     }
+    let mut valid = block::encode(site.shape, list);
+    scatter(image, site, &mut valid);
+    Ok(())
 }

@@ -1,5 +1,5 @@
 -- Rows 1 and 2 come first in each group: complementing the first words of every group complements the image. Assumes nothing.
-use Prim.Native.Nat.{ℕ, zero, suc, ◌+◌, ◌-◌, ◌*◌, ◌/◌, ◌%◌, ◌≤◌, ◌<◌}
+use Prim.Native.Nat.{ℕ, suc, ◌+◌, ◌-◌, ◌*◌, ◌/◌, ◌%◌, ◌≤◌, ◌<◌}
 use mathlib.Core.Bool.{cond}
 use mathlib.Core.Path.{◌≡◌, refl, sym, ap, ◌∙◌}
 use mathlib.Core.List.{List, [], ◌∷◌}
@@ -9,14 +9,14 @@ use native.Mathlib.Omega.{arith}
 use lib.Arith.{digits_mod}
 use lib.Bits.{bit_xor, xor_zero_r}
 use lib.Dec.{ltb}
-use lib.ListN.{length, get_or, set}
-use lib.Seq.{set-get_or}
+use lib.ListN.{length, get_or, set, take, drop}
+use borrow.Rule.Slice.PartMut.{put_mid, same_len_mid}
 use borrow.Author.Tests.{lt-ltb, le-ltb, le-leb, lt-leb}
+use Rattle.std.specs.Prelude.{map}
+use Rattle.std.proofs.lemmas.List.{places, get_or-append_right, get_or_append_left, get_or-map, get_or-take, get_or-drop, length-map, length-take-le}
 use Rattle.ground.specs.Lists.{list_of}
-use Rattle.ground.specs.Stores.{stores}
 use Rattle.ground.proofs.Choices.{refused_kept}
 use Rattle.ground.proofs.Lists.{list_is, list_of_same}
-use Rattle.ground.proofs.Stores.{length_stores, stores_hit, stores_miss, stores_more}
 use Rattle.shape.proofs.Sizes.{rows_least}
 use Rattle.layout.specs.declared.Layout.{Layout}
 use Rattle.layout.specs.Layout.{shape_of, rows_of, group_words, row_at}
@@ -24,7 +24,7 @@ use Rattle.layout.specs.Refusal.{image_refusal}
 use Rattle.layout.proofs.Index.{row_in_group}
 use Rattle.layout.proofs.Ladder.{geometry, image_layout, image_exact}
 use Rattle.stored.proofs.Forms.{word_kept}
-use Rattle.stored.specs.Stored.{ones, mask, complemented_in, complemented, complemented_image, ComplementsImage}
+use Rattle.stored.specs.Stored.{ones, flipped, mask, complemented_in, complemented, complemented_image, ComplementsImage}
 
 -- ---- a block
 
@@ -32,11 +32,11 @@ use Rattle.stored.specs.Stored.{ones, mask, complemented_in, complemented, compl
 rest_same : (rest : List ℕ) → rest ≡ list_of (length rest) (λ k. complemented_in (suc (suc (suc k))) (get_or rest k 0))
 rest_same rest = list_is (length rest) rest _ refl (λ k l. sym (word_kept (suc (suc (suc k))) (get_or rest k 0) (omega arith)))
 
-pub two_rows : (block : List ℕ) → set (set block 0 (bit_xor (get_or block 0 0) ones)) 1 (bit_xor (get_or block 1 0) ones) ≡ complemented block
+pub two_rows : (block : List ℕ) → set (set block 0 (flipped (get_or block 0 0))) 1 (flipped (get_or block 1 0)) ≡ complemented block
 unfolding complemented list_of
 two_rows [] = refl
 two_rows (a ∷ []) = refl
-two_rows (a ∷ b ∷ rest) = ap (λ (l : List ℕ). bit_xor a ones ∷ bit_xor b ones ∷ l) (rest_same rest)
+two_rows (a ∷ b ∷ rest) = ap (λ (l : List ℕ). flipped a ∷ flipped b ∷ l) (rest_same rest)
 
 -- with rows 1 and 2 overwritten both forms are one
 pub two_over : (block : List ℕ) (x y : ℕ) → set (set (complemented block) 0 x) 1 y ≡ set (set block 0 x) 1 y
@@ -45,15 +45,33 @@ two_over [] x y = refl
 two_over (a ∷ []) x y = refl
 two_over (a ∷ b ∷ rest) x y = ap (λ (l : List ℕ). x ∷ y ∷ l) (sym (rest_same rest))
 
--- ---- a run of words
+-- ---- a part of an image
 
-module _ (image : List ℕ) (at : ℕ) where
-  abbrev pub flipped_run : ℕ → List ℕ
-  flipped_run k = stores image (λ k. at + k) (λ k. bit_xor (get_or image (at + k) 0) ones) k
+module _ (image : List ℕ) (at n : ℕ) where
+  -- the image with every bit of that part turned
+  abbrev pub turned : List ℕ
+  turned = put_mid at n image (map flipped (take n (drop at image)))
 
-  -- the next word of the run is as it was
-  pub next_kept : (k : ℕ) → get_or (flipped_run k) (at + k) 0 ≡ get_or image (at + k) 0
-  next_kept k = stores_miss image (λ k. at + k) _ (at + k) k (λ j h e. omega arith)
+  module _ (inside : at + n ≤ length image) where
+    turned_length : length turned ≡ length image
+    turned_length = same_len_mid at n image _ (length-map (take n (drop at image)) flipped)
+
+    turned_below : (i : ℕ) → i < at → get_or turned i 0 ≡ get_or image i 0
+    turned_below i h = grind (arith, places)
+
+    turned_above : (i : ℕ) → at + n ≤ i → get_or turned i 0 ≡ get_or image i 0
+    turned_above i high = grind (arith, places, length-map)
+
+    turned_in : (i : ℕ) → at ≤ i → i < at + n → get_or turned i 0 ≡ flipped (get_or image i 0)
+    turned_in i low high =
+        let part = take n (drop at image) in
+        let long : length part ≡ n = grind (arith, places) in
+        let within : i - at < length part = omega arith in
+        get_or-append_right (take at image) _ at i 0 (length-take-le at image (omega arith)) low
+        ∙ get_or_append_left (map flipped part) _ 0 (i - at) (rw (length-map part flipped) within)
+        ∙ get_or-map flipped part (i - at) 0 0 within
+        ∙ ap flipped (get_or-take n (drop at image) (i - at) 0 (omega arith) ∙ get_or-drop at image (i - at) 0)
+        ∙ ap (λ (k : ℕ). flipped (get_or image k 0)) (let e : at + (i - at) ≡ i = omega arith in e)
 
 -- ---- the groups of an image
 
@@ -65,31 +83,6 @@ module _ (image : List ℕ) (first group : ℕ) where
   abbrev pub word : ℕ → ℕ
   word i = bit_xor (get_or image i 0) (mask_in first group i)
 
-  -- the image with the words below a place done
-  abbrev pub done_below : ℕ → List ℕ
-  done_below n = stores image (λ i. i) word n
-
-  not_yet : (n i : ℕ) → n ≤ i → get_or (done_below n) i 0 ≡ get_or image i 0
-  not_yet n i h = stores_miss image (λ i. i) word i n (λ j l e. omega arith)
-
-  -- the first words of a group
-  run_more : (at : ℕ) → ((k : ℕ) → k < first → (at + k) % group ≡ k) → (n : ℕ) → n ≤ first → flipped_run (done_below at) at n ≡ done_below (at + n)
-  unfolding stores
-  run_more at in_group zero h = let e : at ≡ at + 0 = omega arith in ap done_below e
-  run_more at in_group (suc n) h =
-      let e : at + suc n ≡ suc (at + n) = omega arith in
-      rw (e, run_more at in_group n (omega arith), in_group n (omega arith), lt-ltb n first (omega arith), not_yet at (at + n) (omega arith))
-
-  -- and the others, which stay
-  rest_more : (at : ℕ) → ((k : ℕ) → k < group → (at + k) % group ≡ k) → first ≤ group → done_below (at + first) ≡ done_below (at + group)
-  rest_more at in_group fits =
-      stores_more image (λ i. i) word (at + first) (at + group) (omega arith)
-      (λ i l h.
-      let k : ℕ = i - at in
-      let e : at + k ≡ i = omega arith in
-      let r : i % group ≡ k = ap (λ (n : ℕ). n % group) (sym e) ∙ in_group k (omega arith) in
-      rw (r, le-ltb k first (omega arith), xor_zero_r) (rw (← not_yet i i (omega arith)) (set-get_or (done_below i) i 0)))
-
   -- what is done after some groups
   pub record Going (after : List ℕ) (at : ℕ) : Type 0 where
     pub groups : ℕ
@@ -98,44 +91,58 @@ module _ (image : List ℕ) (first group : ℕ) where
     pub fits : first ≤ group
     pub passed : ℕ
     pub place : at ≡ passed * group
-    pub within : passed ≤ groups
-    pub stored : after ≡ done_below at
+    pub same_length : length after ≡ length image
+    pub done : (i : ℕ) → i < at → get_or after i 0 ≡ word i
+    pub left : (i : ℕ) → at ≤ i → get_or after i 0 ≡ get_or image i 0
 
-  module _ {after : List ℕ} {at : ℕ} (g : Going after at) (more : at < length image) where
-    -- there is one more group
-    pub one_left : g.passed < g.groups
-    one_left = elim (dec_lt g.passed g.groups) [
-      | yes l ↦ l
-      | no l ↦ absurd (let m = mul-le-mul_right group (let e : g.groups ≤ g.passed = omega arith in e) in omega (arith, m, g.size, g.place))
-    ]
-
-    pub group_inside : at + group ≤ length image
-    group_inside =
-        let m = mul-le-mul_right group (let e : suc g.passed ≤ g.groups = one_left in e) in
+  module _ {after : List ℕ} {at : ℕ} (g : Going after at) where
+    -- the next group lies in the image
+    pub group_inside : at < length image → at + group ≤ length image
+    group_inside more =
+        let next : suc g.passed ≤ g.groups = elim (dec_lt g.passed g.groups) [
+          | yes l ↦ l
+          | no l ↦ absurd (let m = mul-le-mul_right group (let e : g.groups ≤ g.passed = omega arith in e) in omega (arith, m, g.size, g.place))
+        ] in
+        let m = mul-le-mul_right group next in
         omega (arith, m, g.size, g.place, add-mul g.passed 1 group, one-mul group)
 
-    pub group_done : {left : List ℕ} → left ≡ flipped_run after at first → Going left (at + group)
-    group_done e =
-        let in_group : (k : ℕ) → k < group → (at + k) % group ≡ k = λ k h. rw g.place (digits_mod g.passed h) in
-        record {
+    pub group_done : {n : ℕ} {part : List ℕ} → at < length image → n ≡ first → part ≡ map flipped (take n (drop at after))
+        → Going (put_mid at n after part) (at + group)
+    group_done {n} {part} more n_is part_is =
+        let end = group_inside more in
+        let inside : at + first ≤ length after = omega (arith, g.same_length, g.fits) in
+        let e : put_mid at n after part ≡ turned after at first = rw (part_is, n_is) refl in
+        let in_group : (i : ℕ) → at ≤ i → i < at + group → i % group ≡ i - at =
+        λ i low high.
+        let split : g.passed * group + (i - at) ≡ i = omega (arith, g.place) in
+        ap (λ (m : ℕ). m % group) (sym split) ∙ digits_mod g.passed (let small : i - at < group = omega arith in small) in
+        rw e
+        (record {
           groups = g.groups;
           size = g.size;
           some = g.some;
           fits = g.fits;
           passed = suc g.passed;
           place = omega (arith, g.place, add-mul g.passed 1 group, one-mul group);
-          within = one_left;
-          stored = e ∙ rw g.stored (run_more at (λ k h. in_group k (omega (arith, g.fits))) first (omega arith) ∙ rest_more at in_group g.fits);
-        }
+          same_length = turned_length after at first inside ∙ g.same_length;
+          done = λ i below.
+              elim (dec_lt i at) [
+                | yes l ↦ turned_below after at first inside i l ∙ g.done i l
+                | no l ↦ elim (dec_lt i (at + first)) [
+                  | yes h ↦
+                      turned_in after at first inside i (omega arith) h
+                      ∙ rw (g.left i (omega arith), in_group i (omega arith) below, lt-ltb (i - at) first (omega arith)) refl
+                  | no h ↦
+                      turned_above after at first inside i (omega arith) ∙ g.left i (omega arith)
+                      ∙ sym (rw (in_group i (omega arith) below, le-ltb (i - at) first (omega arith)) (xor_zero_r (get_or image i 0)))
+                ]
+              ];
+          left = λ i high. turned_above after at first inside i (omega (arith, g.fits)) ∙ g.left i (omega arith);
+        })
 
-  -- all of it
-  pub all_done : {after : List ℕ} {at : ℕ} → Going after at → length image ≤ at → after ≡ list_of (length image) word
-  all_done {after} {at} g h =
-      let e : at ≡ length image =
-      let m = mul-le-mul_right group g.within in omega (arith, m, g.size, g.place) in
-      g.stored ∙ ap done_below e
-      ∙ list_is (length image) _ word (length_stores image (λ i. i) word (length image))
-      (λ j l. stores_hit image (λ i. i) word j (length image) (λ k b q. q) l l)
+    -- all of it
+    pub all_done : length image ≤ at → after ≡ list_of (length image) word
+    all_done h = list_is (length image) after word g.same_length (λ i l. g.done i (omega arith))
 
 -- ---- the groups of a layout
 
@@ -166,7 +173,6 @@ module _ (image : List ℕ) (layout : Layout) where
 
     -- before the first group
     pub none_done : Going image (2 * layout.s) (group_words layout) image 0
-    unfolding stores
     none_done =
         let s = layout.s in
         let tall = mul-le-mul_right s (rows_least (shape_of layout)) in
@@ -179,8 +185,9 @@ module _ (image : List ℕ) (layout : Layout) where
           fits = tall;
           passed = 0;
           place = omega arith;
-          within = omega arith;
-          stored = refl;
+          same_length = refl;
+          done = λ i h. absurd (omega arith);
+          left = λ i h. refl;
         }
 
     -- after the last

@@ -11,6 +11,10 @@ use Rattle.layout.specs.Refusal.{image_refusal}
 abbrev pub ones : ℕ
 ones = 0xFFFFFFFF
 
+-- a word with every bit turned
+abbrev pub flipped : ℕ → ℕ
+flipped word = bit_xor word ones
+
 -- the bits of row p that are stored complemented: all of them in rows 1 and 2, none in the rows after
 abbrev pub mask : ℕ → ℕ
 mask p = cond (leb p 2) ones 0

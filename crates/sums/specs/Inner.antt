@@ -1,11 +1,13 @@
 -- What the code computes on its way to the sums, 32 lanes at once. Assumes nothing.
-use Rattle.std.specs.Prelude.{ℕ, zero, suc, ◌+◌, ◌*◌, ◌-◌, Bool, ◌≡◌, List, [], ◌∷◌, get_or, set}
+use Rattle.std.specs.Prelude.{◌≡◌, ℕ, zero, suc, ◌+◌, ◌*◌, ◌-◌, Bool, List, [], ◌∷◌, get_or, set}
 use Rattle.std.specs.Int.Bits.{bit_xor, bit_or}
 use Rattle.lane.specs.Bit.{pick}
 use Rattle.shape.specs.declared.Shape.{Shape}
 use Rattle.shape.specs.declared.Shape.TheVariants.{One, Two}
 use Rattle.ground.specs.Choice.{if_zero}
 use Rattle.stored.specs.Stored.{ones}
+use Rattle.sums.specs.declared.Finding.{Finding}
+use Rattle.sums.specs.declared.Finding.TheVariants.{Clean, Doubt}
 use Rattle.sums.specs.declared.Running.{Running}
 use Rattle.sums.specs.declared.Column.{Column}
 use Rattle.sums.specs.declared.Endings.{Endings}
@@ -20,9 +22,9 @@ unfoldable pub any_of : ℕ → List ℕ → ℕ
 any_of zero digits = zero
 any_of (suc k) digits = bit_or (any_of k digits) (get_or digits k 0)
 
--- what is answered of eight words: the lanes with a one in any; they are kept where there is one
-abbrev pub Kept : (sums : List ℕ) (found : ℕ) (lent after : List ℕ) → Type 0
-Kept sums found lent after = (found ≡ any_of 8 sums) × (after ≡ if_zero found lent sums)
+-- what is found of a block by its eight words: clean where no lane has a one in any, and else in doubt, and the words are kept
+abbrev pub Kept : (sums : List ℕ) (found : Finding) (lent after : List ℕ) → Type 0
+Kept sums found lent after = (found ≡ if_zero (any_of 8 sums) Clean Doubt) × (after ≡ if_zero (any_of 8 sums) lent sums)
 
 -- ---- the rows in groups of four
 

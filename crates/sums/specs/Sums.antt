@@ -8,6 +8,9 @@ use Rattle.shape.specs.declared.Shape.{Shape}
 use Rattle.shape.specs.Shape.{before, rows}
 use Rattle.stored.specs.Stored.{complemented}
 use Rattle.sums.specs.Words.{lane, number, word}
+use Rattle.sums.specs.Inner.{any_of}
+use Rattle.sums.specs.declared.Finding.{Finding}
+use Rattle.sums.specs.declared.Finding.TheVariants.{Clean, Doubt, Missing}
 
 -- the rows of a block that lies in words: row 1 at `at`, each row s after the one before
 unfoldable pub lying : Shape → List ℕ → (at s : ℕ) → List ℕ
@@ -23,13 +26,16 @@ sums_of shape block =
 unfoldable pub doubtful : Shape → List ℕ → ℕ
 doubtful shape block = word (λ i. not (eqb (sum (before shape) (lane i block)) 0) || odd (rows shape) (lane i block))
 
--- the promise of look, and of beside for shape 2 with its rows neighbours, of stored words: the lanes of the code's block that are not valid, and
--- its sums where there is such a lane; 1, and nothing kept, where a row is missing
-pub record Looks (shape : Shape) (words : List ℕ) (at s : ℕ) (lent : List ℕ) (found : ℕ) (after : List ℕ) : Type 0 where
+-- the promise of look, and of beside for shape 2 with its rows neighbours, of stored words: the code's block is clean, or a lane of it is in doubt and
+-- its sums are kept; nothing is kept where a row is missing
+pub record Looks (shape : Shape) (words : List ℕ) (at s : ℕ) (lent : List ℕ) (found : Finding) (after : List ℕ) : Type 0 where
   pub there : at + before shape * s < length words
-      → (found ≡ doubtful shape (complemented (lying shape words at s)))
-      × (after ≡ if_zero found lent (sums_of shape (complemented (lying shape words at s))))
-  pub missing : (at + before shape * s < length words → ⊥) → (found ≡ 1) × (after ≡ lent)
+      → (found ≡ if_zero (doubtful shape (complemented (lying shape words at s))) Clean Doubt)
+      × (after ≡ if_zero (doubtful shape (complemented (lying shape words at s))) lent (sums_of shape (complemented (lying shape words at s))))
+  -- the lanes that are not valid are those of the sums, as `Sums::lanes` gives them of what is kept
+  pub lanes : at + before shape * s < length words
+      → any_of 8 (sums_of shape (complemented (lying shape words at s))) ≡ doubtful shape (complemented (lying shape words at s))
+  pub missing : (at + before shape * s < length words → ⊥) → (found ≡ Missing) × (after ≡ lent)
 
 -- lane i's sum and its parity in eight words, whichever they are
 abbrev pub sum_in : List ℕ → ℕ → ℕ

@@ -130,10 +130,10 @@ module _ (n rest first : ℕ) (digits : List ℕ) where
         ∙ ap (λ (ds : List ℕ). decimal (rest / 10) ++ ds) (sym (put_front (digit (rest % 10)) some h))
 
     -- the only digit left, and all stand
-    pub put_only : rest < 10 → drop (first - 1) (set digits (first - 1) (digit (rest % 10))) ≡ decimal n
+    pub put_only : rest / 10 ≡ 0 → drop (first - 1) (set digits (first - 1) (digit (rest % 10))) ≡ decimal n
     put_only l =
         let same : rest % 10 ≡ rest = omega arith in
         put_front (digit (rest % 10)) some h
         ∙ ap (λ (d : ℕ). digit d ∷ drop first digits) same
-        ∙ ap (λ (ds : List ℕ). ds ++ drop first digits) (sym (decimal_one rest l))
+        ∙ ap (λ (ds : List ℕ). ds ++ drop first digits) (sym (decimal_one rest (omega arith)))
         ∙ sym e

@@ -1,4 +1,3 @@
 pub mod Decimal
 pub mod Pages
-pub mod Lines
 pub mod OneResult

@@ -6,7 +6,9 @@ use native.Mathlib.Nat.{add-zero}
 use native.Mathlib.Omega.{arith}
 use borrow.Author.Tests.{le-leb, lt-leb}
 use lib.ListN.{length, take, drop, length-append, length-drop, take-append-drop}
-use lib.Seq.{take_at, take-length, length-take-le, paste, drop-append-add, drop-drop}
+use lib.Seq.{take_at, take-length, length-take-le, drop-append-add, drop-drop}
+use borrow.Rule.Slice.PartMut.{put_mid}
+use Rattle.std.proofs.lemmas.Slice.{put_mid-paste}
 use Rattle.text.specs.Page.{Page, page, over, written, written_all, end_to_end}
 
 -- ---- a text in bytes
@@ -25,8 +27,8 @@ module _ (bytes : List ℕ) (at : ℕ) (text : List ℕ) where
       ∙ omega (arith, length_front (omega arith), length-drop (at + length text) bytes)
 
   -- a copy of the whole text
-  pub pasted : paste bytes at text (length text) ≡ over bytes at text
-  pasted = rw take-length
+  pub copied : (k : ℕ) (copy : List ℕ) → k ≡ length text → copy ≡ text → put_mid at k bytes copy ≡ over bytes at text
+  copied k copy many same = put_mid-paste at k bytes copy text k same refl many ∙ rw (many, take-length)
 
 -- ---- a page
 
@@ -40,6 +42,15 @@ pub written_not : (text bytes : List ℕ) (at : ℕ) → length bytes < at + len
 unfolding written
 written_not text bytes at h = rw (lt-leb (at + length text) (length bytes) h)
 
+-- what a call leaves that has no room for a text, and one that copies it
+pub leaves : (text bytes : List ℕ) (at : ℕ) → length bytes < at + length text → page bytes at ≡ written text (page bytes at)
+leaves text bytes at h = sym (written_not text bytes at h)
+
+pub copies : (text bytes copy : List ℕ) (at k : ℕ) → at + length text ≤ length bytes → k ≡ length text → copy ≡ text
+    → page (put_mid at k bytes copy) (at + length text) ≡ written text (page bytes at)
+copies text bytes copy at k h many same =
+    ap (λ (left : List ℕ). page left (at + length text)) (copied bytes at text k copy many same) ∙ sym (written_fits text bytes at h)
+
 -- one line more at the end
 pub written_last : (lines : List (List ℕ)) (line : List ℕ) (p : Page) → written_all (lines ++ line ∷ []) p ≡ written line (written_all lines p)
 unfolding written_all
@@ -47,6 +58,15 @@ written_last [] line p = refl
 written_last (first ∷ lines) line p = written_last lines line (written first p)
 
 -- ---- lines that all fit are one text
+
+pub end_to_end_last : (lines : List (List ℕ)) (line : List ℕ) → end_to_end (lines ++ line ∷ []) ≡ end_to_end lines ++ line
+unfolding end_to_end
+end_to_end_last [] line = append-nil line
+end_to_end_last (first ∷ lines) line =
+    ap (λ (text : List ℕ). first ++ text) (end_to_end_last lines line) ∙ sym (append_assoc first (end_to_end lines) line)
+
+pub length_last : (lines : List (List ℕ)) (line : List ℕ) → length (end_to_end (lines ++ line ∷ [])) ≡ length (end_to_end lines) + length line
+length_last lines line = ap length (end_to_end_last lines line) ∙ length-append (end_to_end lines) line
 
 over_none : (bytes : List ℕ) (at : ℕ) → over bytes at [] ≡ bytes
 over_none bytes at = rw (append-nil, add-zero, take-append-drop)

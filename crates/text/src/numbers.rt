@@ -1,31 +1,44 @@
-// A number at the next place of a lent buffer; answers the place after it.
-// What does not fit is not written, and the place stays.
-ghost use Rattle.text.specs.Puts.{PutsDecimal, PutsNamed};
+// A number in decimal on a page.
+ghost use Rattle.std.specs.Prelude.{◌≡◌, ◌≤◌, drop};
+ghost use Rattle.text.specs.Text.{decimal};
+ghost use Rattle.text.specs.Puts.{PutsDecimal, PutsNamed, OnPage};
 
-use super::texts::put_text;
+use super::Page;
 
-pub fn put_decimal(n: u32, out: &mut [u8], at: usize) -> usize
-    ensures { PutsDecimal n out.old at out.new result }
+// Puts the digits at the end, the last one first; answers the place of the first one.
+// By hand, as std's Display promises nothing of a buffer where it answers an error, and PutsDecimal does.
+#[tactic(auto, using(crate::proofs::Decimal::put_only))]
+fn spell(n: u32, digits: &mut [u8; 10]) -> usize
+    ensures place { result ≤ 10 }
+    ensures spelt { drop result digits.new ≡ decimal n }
 {
-    // the last digit is found first
-    let mut digits = [0u8; 10];
-    let mut first = 10;
     let mut rest = n;
-    loop {
-        first -= 1;
-        digits[first] = 48 + (rest % 10) as u8;
-        rest = rest / 10;
+    // By place: that of the first digit is the answer.
+    for first in (0..10).rev() {
+        digits[first] = b'0' + (rest % 10) as u8;
+        rest /= 10;
         if rest == 0 {
-            break;
+            return first;
         }
     }
-    put_text(&digits[first..], out, at)
+    // A number has at most ten digits.
+    unreachable!()
 }
 
-// A text, and then a number.
-pub fn put_named(text: &[u8], n: u32, out: &mut [u8], at: usize) -> usize
-    ensures { PutsNamed text.now n out.old at out.new result }
-{
-    let next = put_text(text, out, at);
-    put_decimal(n, out, next)
+impl<'a> Page<'a> {
+    pub fn put_decimal(&mut self, n: u32)
+        ensures { OnPage (PutsDecimal n) self.old self.new }
+    {
+        let mut digits = [0u8; 10];
+        let first = spell(n, &mut digits);
+        self.put_text(&digits[first..]);
+    }
+
+    // A text, and then a number.
+    pub fn put_named(&mut self, text: &[u8], n: u32)
+        ensures { OnPage (PutsNamed text.now n) self.old self.new }
+    {
+        self.put_text(text);
+        self.put_decimal(n);
+    }
 }

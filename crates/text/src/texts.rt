@@ -1,28 +1,19 @@
-// A text at the next place of a lent buffer; answers the place after it.
-// A text that does not fit is not written, and the place stays.
-ghost use Rattle.std.specs.Prelude.{◌≡◌, ◌+◌, ◌≤◌, length};
-ghost use Rattle.text.specs.Page.{over};
-ghost use Rattle.text.specs.Puts.{PutsText};
+// A text on a page.
+ghost use Rattle.text.specs.Puts.{PutsText, OnPage};
 
-// Puts a text at a place of a buffer that has room for it.
-fn copy_in(text: &[u8], out: &mut [u8], at: usize)
-    requires { at + length text.now ≤ length out.old }
-    ensures { out.new ≡ over out.old at text.now }
-{
-    for k in 0..text.len() {
-        out[at + k] = text[k];
-    }
-}
+use super::Page;
 
-pub fn put_text(text: &[u8], out: &mut [u8], at: usize) -> usize
-    ensures { PutsText text.now out.old at out.new result }
-{
-    if out.len() < at {
-        return at;
+impl<'a> Page<'a> {
+    #[tactic(auto, using(crate::proofs::Pages::leaves, crate::proofs::Pages::copies))]
+    pub fn put_text(&mut self, text: &[u8])
+        ensures { OnPage (PutsText text.now) self.old self.new }
+    {
+        let len = self.bytes.len();
+        if len < self.next || len - self.next < text.len() {
+            return;
+        }
+        let end = self.next + text.len();
+        self.bytes[self.next..end].copy_from_slice(text);
+        self.next = end;
     }
-    if out.len() - at < text.len() {
-        return at;
-    }
-    copy_in(text, out, at);
-    at + text.len()
 }

@@ -1,13 +1,12 @@
 -- Answers as words. How many a verdict takes is counted once, from the words that say that there is none. Assumes nothing.
-use Rattle.std.specs.Prelude.{ℕ, ◌+◌, ◌≡◌, List, ◌++◌, length, take, drop}
+use Rattle.std.specs.Prelude.{ℕ, ◌+◌, ◌≡◌, List, [], ◌∷◌, Result, Ok, Err, length}
+use Rattle.refusal.specs.declared.Refusal.{Refusal}
+use Rattle.refusal.specs.Refusal.{answer_number}
 use Rattle.block.specs.declared.Verdict.{Verdict}
 use Rattle.block.specs.Verdict.{no_verdict}
-use Rattle.store.specs.declared.Answer.{Answer}
-use Rattle.store.specs.Answer.{answer_number, answer_words}
-use Rattle.rota.specs.declared.Place.{Place}
-use Rattle.rota.specs.Numbers.{place_number, place_words}
+use Rattle.store.specs.Answer.{answer_words}
 use Rattle.patrol.specs.declared.Report.{Report}
-use Rattle.patrol.specs.Numbers.{visit_words, no_visit, report_number, report_words}
+use Rattle.patrol.specs.Numbers.{no_visit, report_words}
 
 abbrev pub verdict_width : ℕ
 verdict_width = length no_verdict
@@ -19,27 +18,21 @@ visit_width = length no_visit
 abbrev pub report_width : ℕ
 report_width = visit_width + visit_width
 
--- words with those of a visit in their place from `at` on
-abbrev pub with_visit : List ℕ → ℕ → ℕ → Verdict → List ℕ
-with_visit words at block verdict = take at words ++ visit_words block verdict ++ drop (at + visit_width) words
+-- the number that is answered besides, and 0 where the call is refused
+abbrev pub count_given : Result ℕ Refusal → ℕ
+count_given (Ok count) = count
+count_given (Err refusal) = 0
 
--- the promises of answer_number and answer_words
-abbrev pub NumbersAnswer : Answer → ℕ → Type 0
+-- the promise of number, of whatever call
+abbrev pub NumbersAnswer : {A : Type 0} → Result A Refusal → ℕ → Type 0
 NumbersAnswer answer number = number ≡ answer_number answer
 
-abbrev pub SpellsAnswer : Answer → List ℕ → Type 0
+-- the promises of answer_words, count_words and report_words
+abbrev pub SpellsAnswer : Result Verdict Refusal → List ℕ → Type 0
 SpellsAnswer answer words = words ≡ answer_words answer
 
--- those of place_number and place_words
-abbrev pub NumbersPlace : Place → ℕ → Type 0
-NumbersPlace place number = number ≡ place_number place
+abbrev pub SpellsCount : Result ℕ Refusal → List ℕ → Type 0
+SpellsCount answer words = words ≡ count_given answer ∷ []
 
-abbrev pub SpellsPlace : Place → List ℕ → Type 0
-SpellsPlace place words = words ≡ place_words place
-
--- and those of report_number and report_words
-abbrev pub NumbersReport : Report → ℕ → Type 0
-NumbersReport report number = number ≡ report_number report
-
-abbrev pub SpellsReport : Report → List ℕ → Type 0
-SpellsReport report words = words ≡ report_words report
+abbrev pub SpellsReport : Result Report Refusal → List ℕ → Type 0
+SpellsReport answer words = words ≡ report_words answer

@@ -1,14 +1,13 @@
 // Answers and records as words, and records back: what the face for C and the stored vectors share.
+// By functions, and not by From: an impl would have to lie with a type, and the words of C stand here alone.
 #![tactic(auto)]
 
 mod answers;
 mod files;
 mod records;
 
-pub use answers::{
-    answer_number, answer_words, place_number, place_words, report_number, report_words,
-};
-pub use files::{header_number, header_words, written_number, written_words};
+pub use answers::{answer_words, count_words, number, report_words};
+pub use files::header_words;
 pub use records::{record_of, record_words};
 
 // The number of a verdict, and its two counts.

@@ -11,45 +11,37 @@ pub fn record_of(words: [u32; RECORD_WORDS]) -> Record
     ensures { HoldsRecord words result }
 {
     let mut asks = [0u32; PLACES];
-    let mut k = 0;
-    while k < PLACES {
-        asks[k] = words[FRONT_WORDS + k];
-        k += 1;
+    asks.copy_from_slice(&words[FRONT_WORDS..]);
+    Record {
+        layout: Layout {
+            shape: words[0],
+            s: words[1],
+            g: words[2],
+        },
+        rota: Rota {
+            next: words[3],
+            line: Line {
+                waiting: words[4],
+                asks,
+            },
+        },
     }
-    let line = Line {
-        waiting: words[4],
-        asks,
-    };
-    let rota = Rota {
-        next: words[3],
-        line,
-    };
-    let layout = Layout {
-        shape: words[0],
-        s: words[1],
-        g: words[2],
-    };
-    Record { layout, rota }
 }
 
 // The words of this record.
 pub fn record_words(record: Record) -> [u32; RECORD_WORDS]
     ensures { SpellsRecord «record» result }
 {
-    let layout = record.layout;
-    let rota = record.rota;
-    let line = rota.line;
-    let asks = line.asks;
+    let Record { layout, rota } = record;
     let mut words = [0u32; RECORD_WORDS];
-    words[0] = layout.shape;
-    words[1] = layout.s;
-    words[2] = layout.g;
-    words[3] = rota.next;
-    words[4] = line.waiting;
-    let mut k = 0;
-    while k < PLACES {
-        words[FRONT_WORDS + k] = asks[k];
-        k += 1;
-    }
+    let front = [
+        layout.shape,
+        layout.s,
+        layout.g,
+        rota.next,
+        rota.line.waiting,
+    ];
+    words[..FRONT_WORDS].copy_from_slice(&front);
+    words[FRONT_WORDS..].copy_from_slice(&rota.line.asks);
     words
 }

@@ -1,38 +1,17 @@
--- `stored::complement_words` meets its contract. The loop's invariant: the first k words are complemented. Assumes nothing.
-use mathlib.Core.Path.{◌≡◌, refl}
-use native.Mathlib.Numerals.{add-one}
+-- `stored::complement_words` meets its contract. Assumes nothing.
+use Prim.Native.Nat.{◌^◌, ◌<◌}
 use native.Mathlib.Omega.{arith}
-use lib.ListN.{length-set}
-use Rattle.ground.specs.Stores.{stores}
-use Rattle.stored.proofs.Groups.{next_kept}
+use lib.ListN.{get_or}
+use Rattle.std.proofs.lemmas.List.{get_or_default}
+use Rattle.std.proofs.lemmas.List.Edits.{map_over_more}
+use Rattle.stored.specs.Stored.{flipped}
+use Rattle.stored.proofs.Forms.{not_word}
 use Rattle.stored.proofs.complement_words.Goals as goal
 
-pub loop-k-init : goal.loop-k-init
-unfolding stores
-loop-k-init c = (omega arith, refl, refl)
-
-pub bounds-image-at : goal.bounds-image-at
-bounds-image-at c = omega (arith, c.loop-k.invariant.2, c.requires)
-
-pub bounds-image-at-in-loop-k : goal.bounds-image-at-in-loop-k
-bounds-image-at-in-loop-k c = omega (arith, c.loop-k.invariant.2, c.requires)
-
-pub loop-k-smaller : goal.loop-k-smaller
-loop-k-smaller c = omega arith
-
-pub loop-k-preserved : goal.loop-k-preserved
-unfolding stores
-loop-k-preserved c =
-    let l = c.loop-k in
-    let a = c.args in
-    rw add-one
-    (omega arith, rw l.invariant.1 (rw (next_kept a.image.now a.at l.k)), simp length-set l.invariant.2)
-
-pub shape_of-image : goal.shape_of-image
-shape_of-image c = c.loop-k.invariant.2
-
-pub returns : goal.returns
-returns c =
-    let l = c.loop-k in
-    let e : l.k ≡ c.args.count = omega arith in
-    rw (← e) l.invariant.1
+pub loop-word-preserved : goal.loop-word-preserved
+loop-word-preserved c =
+    let l = c.loop-word in
+    let fits : get_or l.words l.word-index 0 < 2 ^ 32 = omega arith in
+    rw (not_word _ fits)
+    (map_over_more flipped _ _ _ _ (omega arith) l.invariant
+    (get_or_default l.words l.word-index 0 (get_or l.words l.word-index 0) (omega arith)))

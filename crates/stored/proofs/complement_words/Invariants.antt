@@ -1,12 +1,8 @@
--- `stored::complement_words` meets its contract. The loop's invariant: the first k words are complemented. Assumes nothing.
-use Prim.Native.Nat.{◌-◌, ◌≤◌}
+-- `stored::complement_words` meets its contract. The loop's invariant: the words before the index are complemented. Assumes nothing.
 use mathlib.Core.Path.{◌≡◌}
-use lib.ListN.{length}
-use Rattle.stored.proofs.Groups.{flipped_run}
+use Rattle.std.proofs.Common.{map, take, drop, ◌++◌}
+use Rattle.stored.specs.Stored.{flipped}
 use Rattle.stored.proofs.complement_words.Given as goal
 
-abbrev pub invariant-loop-k : goal.invariant-loop-k
-invariant-loop-k l = (l.k ≤ l.count) × (l.image ≡ flipped_run l.initial.image l.at l.k) × (length l.image ≡ length l.initial.image)
-
-abbrev pub decreases-loop-k : goal.decreases-loop-k
-decreases-loop-k l = l.count - l.k
+abbrev pub invariant-loop-word : goal.invariant-loop-word
+invariant-loop-word l = l.words ≡ map flipped (take l.word-index l.initial.words) ++ drop l.word-index l.initial.words

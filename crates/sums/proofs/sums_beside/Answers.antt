@@ -1,8 +1,6 @@
 -- `sums::sums_beside` meets its contract: the four columns give the sums. Assumes nothing.
-use mathlib.Core.Path.{ap, ◌∙◌}
+use mathlib.Core.Path.{◌∙◌}
 use native.Mathlib.Omega.{arith}
-use Rattle.ground.specs.Choice.{if_zero}
-use Rattle.sums.specs.Inner.{any_of}
 use Rattle.shape.specs.declared.Shape.TheVariants.{Two}
 use Rattle.sums.proofs.StoredSums.{code_sums}
 use Rattle.sums.proofs.Lying.{length_lying}
@@ -15,5 +13,4 @@ returns c =
     let plain = beside_sums args.words.now args.at (λ k. omega (arith, c.type_inv.words k)) c.columns.ensures.table
     c.columns.ensures.top c.columns.ensures.all c.with_ends-ends.ensures c.across-d2.ensures c.across-d3.ensures
     c.across-d4.ensures c.across-d5.ensures in
-    let are = code_sums Two _ (length_lying Two args.words.now args.at 1) plain in
-    (c.eight.ensures.0 ∙ ap (any_of 8) are, c.eight.ensures.1 ∙ ap (if_zero c.eight.result args.sums.now) are)
+    c.eight.ensures ∙ code_sums Two _ (length_lying Two args.words.now args.at 1) plain

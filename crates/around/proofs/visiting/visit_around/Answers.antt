@@ -1,74 +1,51 @@
 -- `around::visiting::visit_around` meets its contract: refused, no row named, valid where it lies, or mended around them. Assumes nothing.
-use Prim.Native.Nat.{ℕ}
-use mathlib.Core.Path.{◌≡◌, sym, ap, ◌∙◌}
-use native.Mathlib.Omega.{arith}
-use Rattle.shape.specs.Shape.{rows}
-use Rattle.layout.specs.Layout.{rows_of}
-use Rattle.layout.proofs.Sites.{located, refused, locates_is}
-use Rattle.store.proofs.Located.{first_small}
-use Rattle.around.specs.Inner.{named_of}
-use Rattle.around.specs.declared.naming.Named.TheVariants.{Wrong, Rows}
-use Rattle.around.proofs.Promised.{no_list, none_visited, named_wrong, rows_fine, one_list, more_list}
-use Rattle.around.proofs.Promised.{site_refused, list_refused, clean_promised, mends_there, valid_there, looked_at}
+use mathlib.Core.Path.{◌∙◌}
+use Rattle.refusal.proofs.Answered.{passed_on}
+use Rattle.layout.proofs.Sites.{located, refused}
+use Rattle.around.proofs.Lent.{no_row, one_row, some_rows}
+use Rattle.around.proofs.Promised.{none_visited, visit_refused, site_refused, list_refused, clean_promised, mends_promised, looked_at, few, taken_fine}
 use Rattle.around.proofs.visiting.visit_around.Goals as goal
 
-pub returns-then-list-eq0 : goal.returns-then-list-eq0
-returns-then-list-eq0 c =
-    rw (no_list c.args.list.now c.if-list-eq0.true, c.around_none.ensures) (none_visited c.args.image.now c.args.layout c.args.block c.visit.ensures)
+pub returns-in_err-visit : goal.returns-in_err-visit
+returns-in_err-visit c = rw (no_row c.args.list.now c.in_default.len_below, passed_on c.from_residual.ensures.1) (visit_refused _ _ _ c.in_err-visit.ensures)
 
-pub overflow_cast-at : goal.overflow_cast-at
-overflow_cast-at c =
-    let site = located _ _ _ _ _ (sym (locates_is _ _ _ c.in-At.ensures)) in
-    omega (arith, first_small _ _ _ site)
+pub returns-in_default : goal.returns-in_default
+returns-in_default c = rw (no_row c.args.list.now c.in_default.len_below, c.from.ensures) (none_visited _ _ _ c.in_ok-visit.ensures)
 
-pub returns-then-look-eq0 : goal.returns-then-look-eq0
-returns-then-look-eq0 c =
-    let site = located _ _ _ _ _ (sym (locates_is _ _ _ c.in-At.ensures)) in
-    let told : Rows c.in-Rows.a c.in-Rows.b c.in-Rows.c ≡ named_of (rows_of c.args.layout) c.args.list.now =
-    c.in-Rows.ensures ∙ ap (λ (n : ℕ). named_of n c.args.list.now) (c.rows.ensures ∙ ap rows site.same_shape) in
-    let fine = rows_fine _ _ told in
-    clean_promised c.args.image.now c.args.layout c.args.block c.args.list.now site.passed fine.0
-    (valid_there c.args.image.now site c.look.ensures c.if-look-eq0.true) fine.1 fine.2
+pub returns-in_err-site : goal.returns-in_err-site
+returns-in_err-site c = rw (passed_on c.from_residual-in_err-site.ensures.1) (site_refused _ _ _ _ _ (refused _ _ _ c.in_err-site.ensures))
+
+pub returns-in_err-check_named : goal.returns-in_err-check_named
+returns-in_err-check_named c =
+    rw (passed_on c.from_residual-in_err-check_named.ensures.1)
+    (list_refused _ (located _ _ _ c.in_ok-site.ensures) _ c.rows.ensures c.in_err-check_named.ensures)
+
+pub returns-in-Clean : goal.returns-in-Clean
+returns-in-Clean c =
+    clean_promised _ (located _ _ _ c.in_ok-site.ensures) _ c.rows.ensures c.in_ok-check_named.ensures c.look.ensures c.in-Clean.is
 
 pub around_one-requires : goal.around_one-requires
 around_one-requires c =
-    let site = located _ _ _ _ _ (sym (locates_is _ _ _ c.in-At.ensures)) in
-    let told : Rows c.in-Rows.a c.in-Rows.b c.in-Rows.c ≡ named_of (rows c.in-At.shape) c.args.list.now =
-    c.in-Rows.ensures ∙ ap (λ (n : ℕ). named_of n c.args.list.now) c.rows.ensures in
-    (looked_at c.args.image.now site c.look.ensures c.if-look-eq0.false, (one_list _ _ told c.if-list-eq0.false c.if-b-eq0.true).1)
-
-pub returns-then-b-eq0 : goal.returns-then-b-eq0
-returns-then-b-eq0 c =
-    let site = located _ _ _ _ _ (sym (locates_is _ _ _ c.in-At.ensures)) in
-    let told : Rows c.in-Rows.a c.in-Rows.b c.in-Rows.c ≡ named_of (rows_of c.args.layout) c.args.list.now =
-    c.in-Rows.ensures ∙ ap (λ (n : ℕ). named_of n c.args.list.now) (c.rows.ensures ∙ ap rows site.same_shape) in
-    mends_there c.args.image.now c.args.layout c.args.block c.args.list.now site.passed (rows_fine _ _ told).0 site.same_shape
-    (one_list _ _ told c.if-list-eq0.false c.if-b-eq0.true).0 c.around_one.ensures
+    let there = located _ _ _ c.in_ok-site.ensures in
+    let rows = one_row c.args.list.now c.in-len1-up.len_at_least c.in-empty.len_below in
+    (looked_at _ there c.look.ensures c.in_default-look.not-Clean, taken_fine _ there _ c.rows.ensures c.in_ok-check_named.ensures rows)
 
 pub around_more-requires : goal.around_more-requires
 around_more-requires c =
-    let site = located _ _ _ _ _ (sym (locates_is _ _ _ c.in-At.ensures)) in
-    let told : Rows c.in-Rows.a c.in-Rows.b c.in-Rows.c ≡ named_of (rows c.in-At.shape) c.args.list.now =
-    c.in-Rows.ensures ∙ ap (λ (n : ℕ). named_of n c.args.list.now) c.rows.ensures in
-    (looked_at c.args.image.now site c.look.ensures c.if-look-eq0.false, (more_list _ _ told c.if-b-eq0.false).1)
+    let there = located _ _ _ c.in_ok-site.ensures in
+    let upto = few _ there _ c.rows.ensures c.in_ok-check_named.ensures in
+    let rows = some_rows c.args.list.now c.in-len1-up.len_at_least c.in-len1-up-others.len_at_least upto (c.copied.ensures ∙ c.first.ensures.value) in
+    (looked_at _ there c.look.ensures c.in_default-look.not-Clean, taken_fine _ there _ c.rows.ensures c.in_ok-check_named.ensures rows)
 
-pub returns-in-Nowhere : goal.returns-in-Nowhere
-returns-in-Nowhere c =
-    let r = refused _ _ _ _ (sym (locates_is _ _ _ c.in-Nowhere.ensures)) in
-    site_refused _ _ _ _ _ r.0 r.1
+pub returns-in-empty : goal.returns-in-empty
+returns-in-empty c =
+    mends_promised _ (located _ _ _ c.in_ok-site.ensures) _ c.rows.ensures c.in_ok-check_named.ensures
+    (one_row c.args.list.now c.in-len1-up.len_at_least c.in-empty.len_below) c.around_one.ensures
 
-pub returns-in-Wrong : goal.returns-in-Wrong
-returns-in-Wrong c =
-    let site = located _ _ _ _ _ (sym (locates_is _ _ _ c.in-At.ensures)) in
-    let told : Wrong c.in-Wrong.number ≡ named_of (rows_of c.args.layout) c.args.list.now =
-    c.in-Wrong.ensures ∙ ap (λ (n : ℕ). named_of n c.args.list.now) (c.rows.ensures ∙ ap rows site.same_shape) in
-    let r = named_wrong _ _ told in
-    list_refused _ _ _ _ site.passed _ r.0 r.1
-
-pub returns-else-b-eq0 : goal.returns-else-b-eq0
-returns-else-b-eq0 c =
-    let site = located _ _ _ _ _ (sym (locates_is _ _ _ c.in-At.ensures)) in
-    let told : Rows c.in-Rows.a c.in-Rows.b c.in-Rows.c ≡ named_of (rows_of c.args.layout) c.args.list.now =
-    c.in-Rows.ensures ∙ ap (λ (n : ℕ). named_of n c.args.list.now) (c.rows.ensures ∙ ap rows site.same_shape) in
-    mends_there c.args.image.now c.args.layout c.args.block c.args.list.now site.passed (rows_fine _ _ told).0 site.same_shape
-    (more_list _ _ told c.if-b-eq0.false).0 c.around_more.ensures
+pub returns-in-len1-up-others : goal.returns-in-len1-up-others
+returns-in-len1-up-others c =
+    let there = located _ _ _ c.in_ok-site.ensures in
+    let upto = few _ there _ c.rows.ensures c.in_ok-check_named.ensures in
+    mends_promised _ there _ c.rows.ensures c.in_ok-check_named.ensures
+    (some_rows c.args.list.now c.in-len1-up.len_at_least c.in-len1-up-others.len_at_least upto (c.copied.ensures ∙ c.first.ensures.value))
+    c.around_more.ensures

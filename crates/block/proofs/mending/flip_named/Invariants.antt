@@ -8,7 +8,7 @@ use Rattle.block.proofs.mending.flip_named.Given as goal
 
 abbrev pub invariant-loop-left : goal.invariant-loop-left
 invariant-loop-left l =
-    (l.block ≡ done_but l.last l.sums l.initial.block l.lanes l.left) × ((i : ℕ) → bit i l.left ≡ true → bit i l.lanes ≡ true) × (l.left ≤ l.lanes)
+    (l.block ≡ done_but l.last l.sums.words l.initial.block l.lanes l.left) × ((i : ℕ) → bit i l.left ≡ true → bit i l.lanes ≡ true) × (l.left ≤ l.lanes)
 
 abbrev pub decreases-loop-left : goal.decreases-loop-left
 decreases-loop-left l = l.left

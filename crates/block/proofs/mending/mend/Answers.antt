@@ -31,7 +31,7 @@ module _ (shape : Shape) (sums : List ℕ) {parity over : ℕ}
 
 pub flip_named-requires : goal.flip_named-requires
 flip_named-requires c =
-    let named = names_row c.args.shape c.args.sums.now c.odd.ensures c.above.ensures (omega arith) in (
+    let named = names_row c.args.shape c.args.sums.now.words c.odd.ensures c.above.ensures (omega arith) in (
       omega (arith, c.rows.ensures),
       omega (arith, c.rows.ensures, before_lt c.args.shape),
       rw c.rows.ensures named,
@@ -40,4 +40,4 @@ flip_named-requires c =
 pub returns : goal.returns
 returns c =
     let e = rw c.rows.ensures at c.flip_named.ensures in
-    e ∙ mends c.args.shape c.args.sums.now c.odd.ensures c.above.ensures (omega arith) c.args.block.now
+    e ∙ mends c.args.shape c.args.sums.now.words c.odd.ensures c.above.ensures (omega arith) c.args.block.now

@@ -1,33 +1,19 @@
--- `file::reading::read_words` meets its contract. The loop's invariant: the first k words are copied. Assumes nothing.
-use Prim.Native.Nat.{min}
-use mathlib.Core.Path.{◌≡◌, refl}
-use native.Mathlib.Omega.{arith}
-use native.Mathlib.Numerals.{add-one}
-use lib.ListN.{length, length-set}
-use Rattle.ground.specs.Stores.{stores}
-use Rattle.file.specs.Bytes.{word_count}
-use Rattle.file.specs.Inner.{words_into}
+-- One word more is copied. Assumes nothing.
+use Rattle.std.proofs.Common.{◌≢◌, ◌<◌, length, arith, below_more, get_or-set_other, get_or-set_same, length-drop, ℕ}
+use Rattle.std.proofs.lemmas.List.{length-take}
+use Rattle.ground.proofs.Lists.{list_is}
+use Rattle.file.specs.Bytes.{words_in}
+use Rattle.file.proofs.BigEndian.{word_after}
 use Rattle.file.proofs.reading.read_words.Goals as goal
 
-pub loop-k-init : goal.loop-k-init
-unfolding stores
-loop-k-init c = (omega arith, refl, refl)
-
-pub loop-k-smaller : goal.loop-k-smaller
-loop-k-smaller c = omega arith
-
 pub loop-k-preserved : goal.loop-k-preserved
-unfolding stores
 loop-k-preserved c =
-    let l = c.loop-k in
-    rw add-one (omega arith, rw (c.word_at.ensures, l.invariant.1), simp length-set l.invariant.2)
-
-pub shape_of-image : goal.shape_of-image
-shape_of-image c = c.loop-k.invariant.2
+    let k = c.loop-k.k in
+    let bytes = c.args.bytes.now in
+    let lt : k < length c.loop-k.image = omega arith in
+    below_more _ _ (λ j h. let ne : j ≢ k = omega arith in rw get_or-set_other (c.loop-k.invariant j h))
+    (rw get_or-set_same (let read = word_after bytes 9 _ k _ (omega (arith, length-take {A = ℕ}, length-drop {A = ℕ})) c.as_chunks.ensures.front in cc))
 
 pub returns : goal.returns
-unfolding words_into
-returns c =
-    let count = min (word_count (length c.args.bytes.now)) (length c.args.image.now) in
-    let e : c.loop-k.k ≡ count = omega (arith, c.least-count.ensures) in
-    rw (← e) c.loop-k.invariant.1
+unfolding words_in
+returns c = list_is _ _ _ (omega arith) (λ j h. c.loop-k.invariant j (omega arith))

@@ -1,44 +1,28 @@
 -- `layout::Layout::check` meets its contract, rung by rung. Assumes nothing.
-use Prim.Native.Nat.{ℕ, ◌*◌, ◌<◌}
 use mathlib.Core.Path.{◌≡◌}
 use native.Mathlib.Omega.{arith}
-use lib.Dec.{eqb}
-use Rattle.ground.proofs.Tests.{tests}
+use Rattle.std.proofs.lemmas.Grind.{common_steps}
+use Rattle.refusal.proofs.Answered.{passed_on}
 use Rattle.layout.specs.Refusal.{layout_refusal}
 use Rattle.layout.proofs.Ladder.{no_blocks}
+use Rattle.layout.proofs.Shapes.{past_shape}
 use Rattle.layout.proofs.Layout.check.Goals as goal
 
--- where s is not 0, no groups are no blocks
-no_groups : (s g : ℕ) {n : ℕ} → n ≡ g * s → (s ≡ 0 → ⊥) → eqb g 0 ≡ eqb n 0
-no_groups s g blocks some = rw blocks (no_blocks s g some)
-
-pub returns-then-shape-eq0 : goal.returns-then-shape-eq0
+pub returns-in_err-try_from : goal.returns-in_err-try_from
 unfolding layout_refusal
-returns-then-shape-eq0 c = search tests
+returns-in_err-try_from c =
+    let e = c.in_err-try_from.ensures in
+    rw (passed_on c.from_residual.ensures.1, e.0) (grind (arith, common_steps))
 
-pub returns-then-shape-gt2 : goal.returns-then-shape-gt2
-unfolding layout_refusal
-returns-then-shape-gt2 c = search tests
+pub returns-then-not-contains : goal.returns-then-not-contains
+returns-then-not-contains c = rw (past_shape c.args.self _ c.in_ok-try_from.ensures) (grind (arith, common_steps))
 
-pub returns-then-s-eq0 : goal.returns-then-s-eq0
-unfolding layout_refusal
-returns-then-s-eq0 c = search tests
-
-pub returns-then-s-gt16 : goal.returns-then-s-gt16
-unfolding layout_refusal
-returns-then-s-gt16 c = search tests
-
-pub returns-then-n-eq0 : goal.returns-then-n-eq0
-unfolding layout_refusal
-returns-then-n-eq0 c = rw (no_groups c.args.self.s c.args.self.g c.blocks-n.ensures (λ none. omega arith)) (search tests)
-
-pub returns-then-n-gt4096 : goal.returns-then-n-gt4096
-unfolding layout_refusal
-returns-then-n-gt4096 c =
-    rw (no_groups c.args.self.s c.args.self.g c.blocks-n.ensures (λ none. omega arith), ← c.blocks-n.ensures) (search tests)
+pub returns-then-not-contains-2 : goal.returns-then-not-contains-2
+returns-then-not-contains-2 c =
+    let some : c.args.self.s ≡ 0 → ⊥ = grind (arith, common_steps) in
+    rw (past_shape c.args.self _ c.in_ok-try_from.ensures, no_blocks c.args.self.s c.args.self.g some, ← c.blocks-2.ensures) (grind (arith, common_steps))
 
 pub returns : goal.returns
-unfolding layout_refusal
 returns c =
-    let h : c.blocks-n.result < 4097 = omega arith in
-    rw (no_groups c.args.self.s c.args.self.g c.blocks-n.ensures (λ none. omega arith), ← c.blocks-n.ensures) (search tests)
+    let some : c.args.self.s ≡ 0 → ⊥ = grind (arith, common_steps) in
+    rw (past_shape c.args.self _ c.in_ok-try_from.ensures, no_blocks c.args.self.s c.args.self.g some, ← c.blocks-2.ensures) (grind (arith, common_steps))

@@ -1,12 +1,9 @@
 -- `patrol::turning::visit_due` meets its contract. Assumes nothing.
-use Rattle.patrol.proofs.Visits.{none_visited, one_visited, two_visited}
+use Rattle.patrol.proofs.Visits.{one_visited, two_visited}
 use Rattle.patrol.proofs.turning.visit_due.Goals as goal
 
-pub returns-in-Refused : goal.returns-in-Refused
-returns-in-Refused c = none_visited _ _ _ c.requires _ c.in-Refused.is
+pub returns-in-None : goal.returns-in-None
+returns-in-None c = one_visited _ _ _ c.requires _ _ c.visit_accepted.ensures c.in-None.is
 
-pub returns-in-One : goal.returns-in-One
-returns-in-One c = one_visited _ _ _ c.requires _ _ _ c.visit_accepted-verdict.ensures c.in-One.is
-
-pub returns-in-Two : goal.returns-in-Two
-returns-in-Two c = two_visited _ _ _ c.requires _ _ _ c.visit_accepted-patrol.ensures _ _ _ c.visit_accepted-ask.ensures c.in-Two.is
+pub returns-in-Some : goal.returns-in-Some
+returns-in-Some c = two_visited _ _ _ c.requires _ _ c.visit_accepted.ensures _ _ _ c.visit_accepted-in-Some.ensures c.in-Some.is

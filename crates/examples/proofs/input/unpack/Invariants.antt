@@ -1,9 +1,0 @@
--- `unpack` is safe and ends: what is left of the largest index falls. Assumes nothing.
-use Rattle.std.proofs.Common.{◌≤◌, ◌-◌}
-use Rattle.examples.proofs.input.unpack.Given as goal
-
-abbrev pub invariant-loop-i : goal.invariant-loop-i
-invariant-loop-i l = l.i ≤ 18446744073709551615
-
-abbrev pub decreases-loop-i : goal.decreases-loop-i
-decreases-loop-i l = 18446744073709551615 - l.i

@@ -1,9 +1,0 @@
--- `same` is safe and ends: `i` stays within the first list, and what is left of it falls. Assumes nothing.
-use Rattle.std.proofs.Common.{length, ◌≤◌, ◌-◌}
-use Rattle.examples.proofs.lists.same.Given as goal
-
-abbrev pub invariant-loop-i : goal.invariant-loop-i
-invariant-loop-i l = l.i ≤ length l.a
-
-abbrev pub decreases-loop-i : goal.decreases-loop-i
-decreases-loop-i l = length l.a - l.i
