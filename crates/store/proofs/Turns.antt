@@ -1,16 +1,13 @@
 -- What is copied of rows: none, four more, all at once where they are neighbours; and what of that is gathered or scattered. Assumes nothing.
-use Prim.Native.Nat.{ℕ, suc, ◌+◌, ◌*◌, ◌/◌, ◌-◌, ◌≤◌}
+use Prim.Native.Nat.{ℕ, suc, ◌+◌, ◌*◌, ◌/◌, ◌≤◌}
 use mathlib.Core.List.{List}
-use mathlib.Core.Path.{◌≡◌, refl, sym, ap, ◌∙◌, fun_ext}
-use native.Mathlib.Nat.{one-mul, mul-one, add-mul}
+use mathlib.Core.Path.{◌≡◌, refl, ap, fun_ext}
+use native.Mathlib.Nat.{one-mul, add-mul}
 use native.Mathlib.Numerals.{towards_suc}
+use native.Mathlib.Numerals.{add-one}
 use native.Mathlib.Omega.{arith}
-use lib.ListN.{length, get_or, set, take, drop, length-take, length-drop}
-use lib.Seq.{get_or-take, get_or-drop}
-use borrow.Rule.Slice.PartMut.{put_mid}
-use Rattle.std.proofs.lemmas.Slice.{put_mid-paste}
+use lib.ListN.{get_or, set}
 use Rattle.ground.specs.Stores.{stores}
-use Rattle.ground.proofs.Stores.{stores_agree, stores_paste}
 use Rattle.shape.specs.declared.Shape.{Shape}
 use Rattle.shape.specs.declared.Shape.TheVariants.{One, Two}
 use Rattle.shape.specs.Shape.{before, rows}
@@ -52,23 +49,14 @@ module _ (given : List ℕ) (read : Places) (list : List ℕ) (written : Places)
       let more : 4 * (turn + 1) ≡ suc (suc (suc (suc (4 * turn)))) = omega arith in
       rw (more, e, next written turn, along written turn 2, along written turn 3, next read turn, along read turn 2, along read turn 3) (simp towards_suc)
 
-  -- neighbours
-  pub all_copied : (shape : Shape) {count : ℕ} {part : List ℕ} → count ≡ rows shape → Lies (length given) (rows shape) read
-      → Lies (length list) (rows shape) written → read.s ≡ 1 → written.s ≡ 1
-      → part ≡ take (read.at + count - read.at) (drop read.at given)
-      → put_mid written.at (written.at + count - written.at) list part ≡ copied given read list written (rows shape)
-  unfolding copied
-  all_copied shape {count = count} known there room e f is =
-      let n = rows shape in
-      let shown = take n (drop read.at given) in
-      let inside = beside_inside (length given) shape read there e in
-      let fits = beside_inside (length list) shape written room f in
-      let long : length shown ≡ n = simp (length-take, length-drop) (omega arith) in
-      let whole : read.at + count - read.at ≡ n = omega arith in
-      put_mid-paste _ _ list _ shown n (is ∙ ap (λ (m : ℕ). take m (drop read.at given)) whole) (omega arith) (sym long)
-      ∙ sym (stores_paste list written.at shown n (omega arith) (omega arith))
-      ∙ rw (e, f) (simp mul-one
-      (stores_agree list (λ k. written.at + k) _ _ n (λ k h. get_or-take n (drop read.at given) k 0 h ∙ get_or-drop read.at given k 0)))
+  -- a row of neighbours
+  pub one_copied : (j : ℕ) {l : List ℕ} → read.s ≡ 1 → written.s ≡ 1 → l ≡ copied given read list written j
+      → set l (written.at + j) (get_or given (read.at + j) 0) ≡ copied given read list written (j + 1)
+  unfolding copied stores
+  one_copied j e f is =
+      let p : written.at + j ≡ written.at + j * written.s = rw f (omega arith) in
+      let q : read.at + j ≡ read.at + j * read.s = rw e (omega arith) in
+      rw (is, p, q, add-one j) refl
 
 -- ---- the array's rows are its first words
 

@@ -27,7 +27,10 @@ fn copy(shape: Shape, from: &[u32], read: Places, to: &mut [u32], written: Place
     let count = rows(shape);
     if read.s == 1 && written.s == 1 {
         let (i, k) = (read.at, written.at);
-        to[k..k + count].copy_from_slice(&from[i..i + count]);
+        // By index: std's copy_from_slice calls memmove here, which the archive is not to want (docs/C.md).
+        for n in 0..count {
+            to[k + n] = from[i + n];
+        }
         return;
     }
     let (s, t) = (read.s, written.s);

@@ -1,14 +1,21 @@
--- `store::copies::copy` meets its contract. The loop's invariant: the rows of the turns so far are copied. Assumes nothing.
+-- `store::copies::copy` meets its contract. The loops' invariants: the rows of the turns so far are copied. Assumes nothing.
+use mathlib.Core.Path.{◌≡◌, ap, ◌∙◌}
 use native.Mathlib.Omega.{arith}
-use Rattle.store.proofs.Turns.{beside_inside, none_copied, four_copied, all_copied}
+use Rattle.shape.specs.Shape.{rows}
+use Rattle.store.specs.Inner.{copied}
+use Rattle.store.proofs.Turns.{none_copied, one_copied, four_copied}
 use Rattle.store.proofs.copies.copy.Goals as goal
 
-pub slice_bounds-copy_from_slice-end : goal.slice_bounds-copy_from_slice-end
-slice_bounds-copy_from_slice-end c = omega (arith, beside_inside _ _ c.args.written c.requires.1 c.if-written-eq1.true)
+pub loop-n-init : goal.loop-n-init
+loop-n-init c = none_copied _ _ _ _
+
+pub loop-n-preserved : goal.loop-n-preserved
+loop-n-preserved c = one_copied _ _ _ _ c.loop-n.n c.if-read-eq1.true c.if-written-eq1.true c.loop-n.invariant
 
 pub returns-then-written-eq1 : goal.returns-then-written-eq1
 returns-then-written-eq1 c =
-    all_copied _ _ _ _ c.args.shape c.rows-count.ensures c.requires.0 c.requires.1 c.if-read-eq1.true c.if-written-eq1.true c.copy_from_slice.ensures.after
+    let end : c.loop-n.n ≡ rows c.args.shape = omega (arith, c.rows-count.ensures) in
+    c.loop-n.invariant ∙ ap (copied c.args.from.now c.args.read c.args.to.now c.args.written) end
 
 pub loop-turn-init : goal.loop-turn-init
 loop-turn-init c = none_copied _ _ _ _

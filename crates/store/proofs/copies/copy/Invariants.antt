@@ -6,3 +6,6 @@ use Rattle.store.proofs.copies.copy.Given as goal
 
 abbrev pub invariant-loop-turn : goal.invariant-loop-turn
 invariant-loop-turn l = l.to ≡ copied l.from l.fn.read l.initial.to l.fn.written (4 * l.turn)
+
+abbrev pub invariant-loop-n : goal.invariant-loop-n
+invariant-loop-n l = l.to ≡ copied l.from l.fn.read l.initial.to l.fn.written l.n
