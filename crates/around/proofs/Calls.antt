@@ -19,7 +19,7 @@ use Rattle.ground.proofs.Bools.{neither}
 use Rattle.shape.specs.declared.Shape.{Shape}
 use Rattle.shape.specs.Shape.{before, rows}
 use Rattle.shape.proofs.Sizes.{rows_fit, before_small}
-use Rattle.sums.specs.Inner.{any_of}
+use Rattle.sums.specs.Sums.{any_of}
 use Rattle.block.specs.declared.Verdict.{Verdict}
 use Rattle.block.specs.declared.Verdict.TheVariants.{Lost}
 use Rattle.block.specs.Block.{SameRows, lanes_lost, lanes_lost_as, mended_block}
@@ -274,11 +274,12 @@ module _ {image : List ℕ} {layout : Layout} {block : ℕ} {site : Site} {sums 
       within = (low, high, tt)
 
       -- no sum is left: the row alone was wrong
-      pub one_alone : left_in ≡ 0 → Mends image layout block site.shape (r ∷ []) (answers.Mended (ones wrong_in) (ones left_in)) now
+      pub one_alone : left_in ≡ 0 → Mends image layout block site.shape (r ∷ []) (answers.Mended (ones wrong_in) 0) now
+      unfolding ones
       one_alone no-left =
-          mended_mends looked (r ∷ []) within none_around (ones wrong_in) (ones left_in)
+          mended_mends looked (r ∷ []) within none_around (ones wrong_in) 0
           (sym (one.one_inside site.shape found size r low high looked.are none))
-          (sym (one.one_outside site.shape found size r low high looked.are none))
+          (sym (one.one_outside site.shape found size r low high looked.are none ∙ ap ones no-left))
           turned now turned_held.0
           (λ j h.
           ap (λ (b : List ℕ). get_or b j 0) (sym (one.one_alone site.shape found size r low high looked.are none no-left))

@@ -23,8 +23,7 @@ use Rattle.shape.specs.declared.Shape.{Shape}
 use Rattle.shape.specs.Shape.{before, rows}
 use Rattle.shape.proofs.Sizes.{before_small}
 use Rattle.sums.specs.Words.{lane, number}
-use Rattle.sums.specs.Sums.{sums_of}
-use Rattle.sums.specs.Inner.{any_of}
+use Rattle.sums.specs.Sums.{sums_of, any_of}
 use Rattle.sums.proofs.Doubt.{bit_any, digit_in, odd_in_lem}
 use Rattle.sums.proofs.WordBits.{bit_number}
 use Rattle.block.proofs.Lanes.{ones_total}

@@ -13,7 +13,8 @@ use Rattle.block.specs.Verdict.{verdict, verdict_of}
 use Rattle.around.specs.Named.{among?}
 use Rattle.around.specs.Lane.{lost_around?, changes_around}
 use Rattle.around.specs.Block.{lanes_lost_around, around_lanes, around_block, bits_inside, bits_outside}
-use Rattle.around.specs.Inner.{unnamed, around_by, around_of}
+use Rattle.around.specs.Answer.{unnamed}
+use Rattle.around.specs.Inner.{around_by, around_of}
 
 module _ (shape : Shape) (block : List ℕ) where
   none_lost : lanes_lost_around shape [] block ≡ lanes_lost shape block

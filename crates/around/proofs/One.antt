@@ -26,8 +26,7 @@ use Rattle.shape.specs.declared.Shape.{Shape}
 use Rattle.shape.specs.Shape.{before, rows}
 use Rattle.shape.proofs.Sizes.{before_small}
 use Rattle.sums.specs.Words.{lane, word}
-use Rattle.sums.specs.Sums.{sums_of}
-use Rattle.sums.specs.Inner.{any_of}
+use Rattle.sums.specs.Sums.{sums_of, any_of}
 use Rattle.sums.proofs.Doubt.{bit_any, word_lt}
 use Rattle.sums.proofs.WordBits.{bit_number, number_bits, number_lt}
 use Rattle.block.specs.Block.{SameRows, lanes_lost, mended_lanes, mended_block, bits_changed}

@@ -19,10 +19,9 @@ use Rattle.shape.specs.declared.Shape.{Shape}
 use Rattle.shape.specs.Shape.{before, rows}
 use Rattle.shape.proofs.Sizes.{rows_fit}
 use Rattle.sums.specs.Words.{lane, number}
-use Rattle.sums.specs.Sums.{sums_of, doubtful, lying, Looks}
+use Rattle.sums.specs.Sums.{sums_of, doubtful, lying, Looks, any_of}
 use Rattle.sums.specs.declared.Finding.{Finding}
 use Rattle.sums.specs.declared.Finding.TheVariants.{Clean as NoDoubt}
-use Rattle.sums.specs.Inner.{any_of}
 use Rattle.sums.proofs.Doubt.{else_found, some_doubt}
 use Rattle.sums.proofs.WordBits.{number_same}
 use Rattle.stored.specs.Stored.{complemented}
@@ -51,7 +50,8 @@ use Rattle.around.specs.declared.Around.{Around}
 use Rattle.around.specs.declared.Around.TheVariants.{Clean}
 use Rattle.around.specs.Refusal.{misnamed?, named_refusal, around_refusal}
 use Rattle.around.specs.Block.{around_block}
-use Rattle.around.specs.Inner.{unnamed, around_of, Looked, Mends}
+use Rattle.around.specs.Answer.{unnamed}
+use Rattle.around.specs.Inner.{around_of, Looked, Mends}
 use Rattle.around.specs.Visit.{around_after, VisitsAround}
 use Rattle.around.proofs.Lanes.{RowsTo}
 use Rattle.around.proofs.Blocks.{length_around, valid_kept, valid_inside, valid_outside, valid_row}

@@ -7,6 +7,8 @@ use Rattle.ground.specs.Choice.{if_zero}
 use Rattle.refusal.specs.declared.Refusal.{Refusal}
 use Rattle.refusal.specs.Refusal.{answer_number}
 use Rattle.shape.specs.declared.Shape.{Shape}
+use Rattle.block.specs.declared.Verdict.{Verdict}
+use Rattle.block.specs.declared.Verdict.TheVariants as verdicts
 use Rattle.block.specs.Block.{lanes_lost_as}
 use Rattle.around.specs.declared.Around.{Around}
 use Rattle.around.specs.declared.Around.TheVariants.{Clean, Mended, Lost, LostAround}
@@ -23,6 +25,12 @@ around_counts Clean = []
 around_counts (Mended i o) = i ∷ o ∷ []
 around_counts (Lost e b) = e ∷ b ∷ []
 around_counts (LostAround n) = n ∷ []
+
+-- what an ordinary visit finds, as a visit around no row
+abbrev pub unnamed : Verdict → Around
+unnamed verdicts.Clean = Clean
+unnamed (verdicts.Mended m) = Mended 0 m
+unnamed (verdicts.Lost e b) = Lost e b
 
 -- ---- what is said of a block
 

@@ -11,8 +11,6 @@ use Rattle.layout.specs.declared.Layout.{Layout}
 use Rattle.layout.specs.declared.Site.{Site}
 use Rattle.layout.specs.Site.{Locates}
 use Rattle.sums.specs.Sums.{sums_of}
-use Rattle.block.specs.declared.Verdict.{Verdict}
-use Rattle.block.specs.declared.Verdict.TheVariants as verdicts
 use Rattle.block.specs.Block.{ValidBlock, lanes_lost_as}
 use Rattle.store.specs.Image.{gathered, placed}
 use Rattle.around.specs.declared.Around.{Around}
@@ -69,12 +67,6 @@ abbrev pub changed_at : List ℕ → (at word : ℕ) → List ℕ
 changed_at image at word = set image at (bit_xor (get_or image at 0) word)
 
 -- ---- the answer itself
-
--- what an ordinary visit finds, as a visit around no row
-abbrev pub unnamed : Verdict → Around
-unnamed verdicts.Clean = Clean
-unnamed (verdicts.Mended m) = Mended 0 m
-unnamed (verdicts.Lost e b) = Lost e b
 
 -- by the named rows, the lanes lost, how many are of each kind, and the bits changed inside and outside
 abbrev pub around_by : List ℕ → ℕ → (Kind → ℕ) → (i o : ℕ) → Around

@@ -6,7 +6,7 @@ mod solving;
 mod visiting;
 
 ghost use Rattle.std.specs.Prelude.{◌≡◌};
-ghost use Rattle.around.specs.Inner.{unnamed};
+ghost use Rattle.around.specs.Answer.{unnamed};
 
 use block::Verdict;
 pub use visiting::visit_around;

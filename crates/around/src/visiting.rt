@@ -48,9 +48,10 @@ fn around_one(image: &mut [u32], found: Doubted, row: u32) -> Around
         return Around::LostAround(even + beyond);
     }
     flip(image, found.site, row, inside);
-    if outside != 0 {
-        store::visit_accepted(image, found.layout, found.block);
+    if outside == 0 {
+        return Around::Mended(inside.count_ones(), 0);
     }
+    store::visit_accepted(image, found.layout, found.block);
     Around::Mended(inside.count_ones(), outside.count_ones())
 }
 

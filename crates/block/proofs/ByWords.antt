@@ -22,8 +22,8 @@ use Rattle.ground.proofs.Choices.{refused_kept}
 use Rattle.sums.specs.Words.{row}
 use Rattle.block.specs.Block.{data_block, valid_block, lanes_lost, mended_block}
 use Rattle.block.specs.Verdict.{verdict_of}
-use Rattle.sums.specs.Sums.{sums_of}
-use Rattle.sums.specs.Inner.{xor_rows, any_of}
+use Rattle.sums.specs.Sums.{sums_of, any_of}
+use Rattle.sums.specs.Inner.{xor_rows}
 use Rattle.block.specs.Inner.{above_of, lost_lanes, naming_lanes, flipped_in, xor_all, with_checks}
 use Rattle.sums.proofs.RowSums.{sums_are}
 use Rattle.sums.proofs.Doubt.{word_lt, any_lt}

@@ -23,9 +23,8 @@ use Rattle.shape.specs.Shape.{before, rows}
 use Rattle.shape.proofs.Sizes.{before_small}
 use Rattle.block.specs.declared.Verdict.TheVariants.{Clean, Mended, Lost}
 use Rattle.block.specs.Verdict.{said_of, said_by}
-use Rattle.sums.specs.Sums.{sum_in, odd_in}
+use Rattle.sums.specs.Sums.{sum_in, odd_in, any_of}
 use Rattle.block.specs.Sums.{decision_in, lost_in, lost_as_in, odd_count, changed_in, Decides, MendsLanes}
-use Rattle.sums.specs.Inner.{any_of}
 use Rattle.block.specs.Inner.{above_of, lost_lanes, naming_lanes, row_named, flipped_in}
 use Rattle.sums.proofs.WordBits.{number_same}
 use Rattle.sums.proofs.Doubt.{bit_any}

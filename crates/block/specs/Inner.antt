@@ -7,7 +7,7 @@ use Rattle.ground.specs.Lists.{list_of}
 use Rattle.ground.specs.Stores.{stores}
 use Rattle.sums.specs.Words.{word}
 use Rattle.sums.specs.Sums.{sum_in}
-use Rattle.sums.specs.Inner.{any_of}
+use Rattle.sums.specs.Sums.{any_of}
 
 -- every entry of a list is the number of one of n rows
 abbrev pub Listed : ℕ → List ℕ → Type 0

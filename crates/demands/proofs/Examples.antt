@@ -18,7 +18,8 @@ use Rattle.block.specs.declared.Verdict.TheVariants.{Clean, Mended, Lost}
 use Rattle.sums.specs.Words.{number}
 use Rattle.block.specs.Block.{data_block, mended_block}
 use Rattle.block.specs.Verdict.{said_words, verdict_of, verdict_words}
-use Rattle.sums.specs.Inner.{xor_rows, any_of}
+use Rattle.sums.specs.Sums.{any_of}
+use Rattle.sums.specs.Inner.{xor_rows}
 use Rattle.block.specs.Inner.{above_of, lost_lanes, naming_lanes, flipped_in, xor_all, with_checks}
 use Rattle.block.proofs.ByWords.{fit?, bits, row_sums, written, lost_by_words, mended_by_words, clean_by_words}
 use Rattle.layout.specs.declared.Layout.{Layout}

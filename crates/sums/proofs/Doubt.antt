@@ -8,8 +8,9 @@ use native.Mathlib.Nat.{eq-or-lt_of_le, le_of_suc-le-suc}
 use native.Mathlib.Omega.{arith}
 use lib.Bits.{bit_or, or_lt, or_add_and, and_le_l, and_le_r}
 use lib.Dec.{eqb, ltb, eqb-suc-zero}
-use lib.ListN.{length, get_or}
+use lib.ListN.{length, get_or, replicate}
 use lib.Pow.{pow_pos}
+use lib.Seq.{ext_get_or}
 use borrow.Author.Tests.{ne_eqb, lt-ltb}
 use Rattle.lane.specs.Bit.{bit, pick}
 use Rattle.lane.specs.Lane.{sum, odd}
@@ -17,7 +18,7 @@ use Rattle.lane.proofs.Bits.{bit_zero, bit_of_or}
 use Rattle.lane.proofs.Exactly.{sum_lt}
 use Rattle.ground.specs.Lists.{list_of}
 use Rattle.ground.specs.Choice.{if_zero}
-use Rattle.ground.proofs.Lists.{get_or_list_of}
+use Rattle.ground.proofs.Lists.{get_or_list_of, zeros_at}
 use Rattle.shape.specs.declared.Shape.{Shape}
 use Rattle.shape.specs.Shape.{before, rows}
 use Rattle.shape.proofs.Sizes.{before_small}
@@ -25,8 +26,8 @@ use Rattle.stored.specs.Stored.{complemented}
 use Rattle.sums.specs.Words.{lane, number, word}
 use Rattle.sums.specs.declared.Finding.{Finding}
 use Rattle.sums.specs.declared.Finding.TheVariants.{Clean, Doubt, Missing}
-use Rattle.sums.specs.Sums.{lying, sums_of, doubtful, Looks, sum_in, odd_in}
-use Rattle.sums.specs.Inner.{any_of, Kept}
+use Rattle.sums.specs.Sums.{lying, sums_of, doubtful, Looks, sum_in, odd_in, any_of}
+use Rattle.sums.specs.Inner.{Kept}
 use Rattle.sums.proofs.WordBits.{number_lt, number_bits, bit_number}
 
 -- ---- the lanes with a sum
@@ -143,3 +144,15 @@ any_none l zero e k h = absurd (omega arith)
 any_none l (suc n) e k h =
     let o = or_none (any_of n l) (get_or l n 0) e in
     ⊎_elim (λ q. ap (λ (j : ℕ). get_or l j 0) q ∙ o.1) (λ b. any_none l n o.0 k b) (eq-or-lt_of_le (le_of_suc-le-suc h))
+
+-- sums kept in zeros are there either way: those that are not kept are zeros themselves
+pub kept_in_zeros : (shape : Shape) (block after : List ℕ) → after ≡ if_zero (doubtful shape block) (replicate 8 0) (sums_of shape block)
+    → after ≡ sums_of shape block
+unfolding sums_of
+kept_in_zeros shape block after k = by (doubtful shape block) refl k
+  where
+    by : (n : ℕ) → n ≡ doubtful shape block → after ≡ if_zero n (replicate 8 0) (sums_of shape block) → after ≡ sums_of shape block
+    by zero e k =
+        k ∙ sym (ext_get_or 0 (sums_of shape block) (replicate 8 0) refl
+        (λ j h. any_none (sums_of shape block) 8 (some_doubt shape block ∙ sym e) j (omega arith) ∙ sym (zeros_at 8 j)))
+    by (suc n) e k = k

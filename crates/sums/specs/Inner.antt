@@ -1,11 +1,12 @@
 -- What the code computes on its way to the sums, 32 lanes at once. Assumes nothing.
 use Rattle.std.specs.Prelude.{◌≡◌, ℕ, zero, suc, ◌+◌, ◌*◌, ◌-◌, Bool, List, [], ◌∷◌, get_or, set}
-use Rattle.std.specs.Int.Bits.{bit_xor, bit_or}
+use Rattle.std.specs.Int.Bits.{bit_xor}
 use Rattle.lane.specs.Bit.{pick}
 use Rattle.shape.specs.declared.Shape.{Shape}
 use Rattle.shape.specs.declared.Shape.TheVariants.{One, Two}
 use Rattle.ground.specs.Choice.{if_zero}
 use Rattle.stored.specs.Stored.{ones}
+use Rattle.sums.specs.Sums.{any_of}
 use Rattle.sums.specs.declared.Finding.{Finding}
 use Rattle.sums.specs.declared.Finding.TheVariants.{Clean, Doubt}
 use Rattle.sums.specs.declared.Running.{Running}
@@ -16,11 +17,6 @@ use Rattle.sums.specs.declared.Endings.{Endings}
 unfoldable pub xor_rows : (ℕ → Bool) → ℕ → (ℕ → ℕ) → ℕ
 xor_rows test zero rowWord = zero
 xor_rows test (suc n) rowWord = bit_xor (xor_rows test n rowWord) (pick (test (suc n)) (rowWord (suc n)))
-
--- the lanes with a one in any of the first k words
-unfoldable pub any_of : ℕ → List ℕ → ℕ
-any_of zero digits = zero
-any_of (suc k) digits = bit_or (any_of k digits) (get_or digits k 0)
 
 -- what is found of a block by its eight words: clean where no lane has a one in any, and else in doubt, and the words are kept
 abbrev pub Kept : (sums : List ℕ) (found : Finding) (lent after : List ℕ) → Type 0

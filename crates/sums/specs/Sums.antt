@@ -1,5 +1,6 @@
 -- The sums and the parities of a block's 32 lanes as eight words, and what is found where a block lies in words. Assumes nothing.
-use Rattle.std.specs.Prelude.{ℕ, ◌+◌, ◌*◌, ◌<◌, Bool, not, ◌||◌, ◌≡◌, List, [], ◌∷◌, eqb, length, get_or}
+use Rattle.std.specs.Prelude.{ℕ, zero, suc, ◌+◌, ◌*◌, ◌<◌, Bool, not, ◌||◌, ◌≡◌, List, [], ◌∷◌, eqb, length, get_or}
+use Rattle.std.specs.Int.Bits.{bit_or}
 use Rattle.lane.specs.Bit.{bit}
 use Rattle.lane.specs.Lane.{sum, odd}
 use Rattle.ground.specs.Choice.{if_zero}
@@ -8,7 +9,6 @@ use Rattle.shape.specs.declared.Shape.{Shape}
 use Rattle.shape.specs.Shape.{before, rows}
 use Rattle.stored.specs.Stored.{complemented}
 use Rattle.sums.specs.Words.{lane, number, word}
-use Rattle.sums.specs.Inner.{any_of}
 use Rattle.sums.specs.declared.Finding.{Finding}
 use Rattle.sums.specs.declared.Finding.TheVariants.{Clean, Doubt, Missing}
 
@@ -21,6 +21,11 @@ unfoldable pub sums_of : Shape → List ℕ → List ℕ
 sums_of shape block =
     let digit : ℕ → ℕ = λ k. word (λ i. bit k (sum (before shape) (lane i block))) in
     digit 0 ∷ digit 1 ∷ digit 2 ∷ digit 3 ∷ digit 4 ∷ digit 5 ∷ digit 6 ∷ word (λ i. odd (rows shape) (lane i block)) ∷ []
+
+-- the lanes with a one in any of the first k words
+unfoldable pub any_of : ℕ → List ℕ → ℕ
+any_of zero digits = zero
+any_of (suc k) digits = bit_or (any_of k digits) (get_or digits k 0)
 
 -- the lanes that are not valid: odd, or with a sum
 unfoldable pub doubtful : Shape → List ℕ → ℕ

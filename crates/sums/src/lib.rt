@@ -6,8 +6,8 @@ ghost use Rattle.std.specs.Prelude.{◌≡◌, ◌+◌, ◌<◌, length, get_or,
 ghost use Rattle.shape.specs.declared.Shape.TheVariants.{One, Two};
 ghost use Rattle.ground.specs.Stores.{stores};
 ghost use Rattle.stored.specs.Stored.{complemented};
-ghost use Rattle.sums.specs.Sums.{lying, sums_of, Looks};
-ghost use Rattle.sums.specs.Inner.{any_of, Kept, eight_of, high_digits, three_of, four_of};
+ghost use Rattle.sums.specs.Sums.{lying, sums_of, any_of, Looks};
+ghost use Rattle.sums.specs.Inner.{Kept, eight_of, high_digits, three_of, four_of};
 ghost use Rattle.sums.specs.Inner.{column_from, column_of, in_column, laid, tabled, endings_of, across_of};
 
 use layout::Site;
@@ -44,7 +44,7 @@ pub enum Finding {
 
 impl Sums {
     // The lanes with a sum.
-    #[tactic(auto, unfolding(crate::specs::Inner::any_of))]
+    #[tactic(auto, unfolding(crate::specs::Sums::any_of))]
     pub fn any(&self) -> u32
         ensures { result ≡ any_of 7 self.now.words }
     {
@@ -61,7 +61,7 @@ impl Sums {
     }
 
     // The lanes that are not valid: odd, or with a sum.
-    #[tactic(auto, unfolding(crate::specs::Inner::any_of))]
+    #[tactic(auto, unfolding(crate::specs::Sums::any_of))]
     pub fn lanes(&self) -> u32
         ensures { result ≡ any_of 8 self.now.words }
     {
@@ -374,5 +374,9 @@ pub fn look(site: Site, words: &[u32], sums: &mut Sums) -> Finding
 pub fn of_block(block: &[u32; MOST_ROWS]) -> Sums
     ensures { result.words ≡ sums_of Two (complemented (lying Two block.now 0 1)) }
 {
-    sums_beside(block, 0)
+    // By `beside`: called here too, `sums_beside` would be a body apart, and a clean visit take 25 instructions more.
+    // Zeros that nothing is kept in are the sums of a clean block.
+    let mut sums = NO_SUMS;
+    beside(block, 0, &mut sums);
+    sums
 }

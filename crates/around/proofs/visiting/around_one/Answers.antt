@@ -5,7 +5,6 @@ use Rattle.shape.specs.Shape.{rows}
 use Rattle.around.specs.Inner.{mark}
 use Rattle.around.proofs.One.{left_lanes}
 use Rattle.around.proofs.Calls.{row_there, row_inside, decides_turned, one_lost, one_alone, one_visited}
-use Rattle.around.proofs.visiting.around_one.Goals.{then-outside-ne0, else-outside-ne0}
 use Rattle.around.proofs.visiting.around_one.Goals as goal
 
 pub mark-mark-requires : goal.mark-mark-requires
@@ -28,18 +27,21 @@ returns-in-Lost c =
     c.change-2.ensures c.decide.ensures in
     (one_lost c.requires.0 c.args.row c.requires.1 _ decides _ _ c.in-Lost.is).1
 
-pub returns : goal.returns
-returns c =
-    let found = c.args.found in
+pub returns-then-outside-eq0 : goal.returns-then-outside-eq0
+returns-then-outside-eq0 c =
     let decides = decides_turned c.requires.0 c.args.row c.requires.1 _ c.mark-mark.ensures c.odd-odd.ensures c.change.ensures c.any-outside.ensures
     c.change-2.ensures c.decide.ensures in
-    let left : c.any-outside.result ≡ left_lanes (mark (rows found.site.shape) c.args.row) found.sums.words =
+    let left : c.any-outside.result ≡ left_lanes (mark (rows c.args.found.site.shape) c.args.row) c.args.found.sums.words =
+    rw (c.change.ensures, c.odd-odd.ensures, c.mark-mark.ensures) at c.any-outside.ensures in
+    let flipped = rw (c.odd-odd.ensures, left) at c.flip.ensures in
+    rw (c.odd-odd.ensures, left) (one_alone c.requires.0 c.args.row c.requires.1 _ decides c.in_default.not-Lost _ flipped (sym left ∙ c.if-outside-eq0.true))
+
+pub returns : goal.returns
+returns c =
+    let decides = decides_turned c.requires.0 c.args.row c.requires.1 _ c.mark-mark.ensures c.odd-odd.ensures c.change.ensures c.any-outside.ensures
+    c.change-2.ensures c.decide.ensures in
+    let left : c.any-outside.result ≡ left_lanes (mark (rows c.args.found.site.shape) c.args.row) c.args.found.sums.words =
     rw (c.change.ensures, c.odd-odd.ensures, c.mark-mark.ensures) at c.any-outside.ensures in
     let flipped = rw (c.odd-odd.ensures, left) at c.flip.ensures in
     rw (c.odd-odd.ensures, left)
-    (elim c.if-outside-ne0.branch [
-      | then-outside-ne0 w ↦ rw w.image-is
-          (one_visited c.requires.0 c.args.row c.requires.1 _ decides c.in_default.not-Lost _ flipped _ w.visit_accepted.ensures.leaves)
-      | else-outside-ne0 w ↦ rw w.image-is
-          (one_alone c.requires.0 c.args.row c.requires.1 _ decides c.in_default.not-Lost _ flipped (sym left ∙ w.if-outside-ne0.false))
-    ])
+    (one_visited c.requires.0 c.args.row c.requires.1 _ decides c.in_default.not-Lost _ flipped _ c.visit_accepted.ensures.leaves)

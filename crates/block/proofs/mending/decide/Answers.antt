@@ -9,7 +9,7 @@ use lib.ListN.{get_or}
 use Rattle.shape.specs.declared.Shape.{Shape}
 use Rattle.shape.specs.Shape.{before}
 use Rattle.block.specs.declared.Verdict.TheVariants.{Clean, Mended, Lost}
-use Rattle.sums.specs.Inner.{any_of}
+use Rattle.sums.specs.Sums.{any_of}
 use Rattle.block.specs.Sums.{Decides}
 use Rattle.block.specs.Inner.{above_of}
 use Rattle.block.proofs.Judged.{lost_decides, clean_decides, mended_decides}

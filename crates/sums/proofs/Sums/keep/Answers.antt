@@ -3,7 +3,7 @@ use mathlib.Core.Path.{sym}
 use native.Mathlib.Omega.{arith}
 use mathlib.Core.Path.{◌≡◌, refl}
 use Rattle.ground.proofs.Choices.{refused_kept}
-use Rattle.sums.specs.Inner.{any_of}
+use Rattle.sums.specs.Sums.{any_of}
 use Rattle.sums.proofs.Sums.keep.Goals as goal
 
 pub returns-then-lanes-eq0 : goal.returns-then-lanes-eq0
