@@ -1,6 +1,6 @@
 -- The stored form is its own inverse, keeps words words, and changes rows 1 and 2 alone. Assumes nothing.
-use Prim.Native.Nat.{ℕ, suc, ◌-◌, ◌^◌, ◌≤◌, ◌<◌}
-use mathlib.Core.Bool.{Bool, true, false, cond, not}
+use Prim.Native.Nat.{ℕ, suc, ◌^◌, ◌≤◌, ◌<◌}
+use mathlib.Core.Bool.{Bool, true, false, cond}
 use mathlib.Core.Path.{◌≡◌, sym, ap, ◌∙◌}
 use mathlib.Core.List.{List}
 use mathlib.Core.Logic.{⊎_elim}
@@ -11,13 +11,12 @@ use lib.ListN.{length, get_or, get_or-eq_default}
 use lib.Pow.{pow_pos}
 use lib.Seq.{ext_get_or}
 use borrow.Author.Tests.{lt-leb}
-use Rattle.lane.specs.Bit.{bit, ◌⊕◌}
-use Rattle.lane.proofs.Bits.{xor_assoc, ⊕-one, bit_of_xor, bit_zero, bit_ext_below, bit_not}
+use Rattle.lane.proofs.Bits.{xor_assoc}
 use Rattle.lane.proofs.Rows.{split_below}
 use Rattle.ground.proofs.Lists.{length_list_of, get_or_list_of}
 use Rattle.layout.specs.declared.Layout.{Layout}
 use Rattle.layout.specs.Layout.{row_at}
-use Rattle.stored.specs.Stored.{ones, flipped, mask, complemented_in, complemented_by, complemented, complemented_image}
+use Rattle.stored.specs.Stored.{ones, mask, complemented_in, complemented_by, complemented, complemented_image}
 
 -- ---- a word
 
@@ -27,14 +26,6 @@ mask_fits p = by (leb p 2)
     by : (b : Bool) → cond b ones 0 < 2 ^ 32
     by true = lit< tt
     by false = pow_pos 32
-
--- the complement of a word, as the code takes it
-pub not_word : (w : ℕ) → w < 2 ^ 32 → 4294967295 - w ≡ flipped w
-not_word w h =
-    bit_ext_below 32 _ _ (omega arith) (xor_lt 32 w ones h (lit< tt))
-    (λ i l.
-    let one : bit i ones ≡ true = bit_not 32 i 0 l (lit< tt) ∙ ap not (bit_zero i) in
-    bit_not 32 i w l h ∙ sym (bit_of_xor i w ones ∙ ap (λ (b : Bool). bit i w ⊕ b) one ∙ ⊕-one (bit i w)))
 
 -- twice is not at all
 pub word_twice : (p w : ℕ) → complemented_in p (complemented_in p w) ≡ w

@@ -14,8 +14,8 @@ pub const ONES: u32 = u32::MAX;
 pub fn complement_block(block: &mut [u32; MOST_ROWS])
     ensures { ComplementsBlock block.old block.new }
 {
-    block[0] = !block[0];
-    block[1] = !block[1];
+    block[0] ^= ONES;
+    block[1] ^= ONES;
 }
 
 // Complements each word of a run.
@@ -23,7 +23,7 @@ fn complement_words(words: &mut [u32])
     ensures { words.new ≡ map flipped words.old }
 {
     for word in words.iter_mut() {
-        *word = !*word;
+        *word ^= ONES;
     }
 }
 
