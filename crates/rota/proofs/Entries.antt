@@ -113,13 +113,14 @@ module _ (n : ℕ) (r : Rota) (ok : unbroken n r ≡ true) where
   -- ---- turn
 
   -- the ask that is served is a, the block after is k, and the line after is q
-  pub turn_on : {a : Option ℕ} {k : ℕ} {q : Line} → a ≡ first_of (asks_of r.line) → k ≡ onward n r.next → q ≡ shorter places r.line
-      → RotaTurns n r (Ok (record { patrol = r.next; ask = a })) (record { next = k; line = q })
+  pub turn_on : {p : ℕ} {a : Option ℕ} {k : ℕ} {q : Line} → p ≡ r.next → a ≡ first_of (asks_of r.line) → k ≡ onward n r.next
+      → q ≡ shorter places r.line
+      → RotaTurns n r (Ok (record { patrol = p; ask = a })) (record { next = k; line = q })
   unfolding turn_number
-  turn_on e f g =
+  turn_on d e f g =
       record {
         number = rw ok;
-        first = rw ok;
+        first = rw (ok, d);
         second = rw (ok, e) (first_or_zero (asks_of r.line));
         asked = rw (ok, e) (first_some (asks_of r.line));
         back = rw (ok, f, g);

@@ -20,11 +20,11 @@ module _ (image : List ℕ) (layout : Layout) where
   unfolding fresh_after
   fresh_refused {refusal} e = record { answers = e; leaves = rw (← e) (sym (refused_kept _ _ image (number_some refusal))) }
 
-  pub fresh_made : 0 ≡ image_refusal (length image) layout → {filled after : List ℕ} → filled ≡ replicate (length image) 0
-      → ComplementsImage filled layout after
+  pub fresh_made : 0 ≡ image_refusal (length image) layout → {filled after : List ℕ} → ComplementsImage filled layout after
+      → filled ≡ replicate (length image) 0
       → Clears image layout (Ok tt) after
   unfolding fresh_after
-  fresh_made passed e complements =
+  fresh_made passed complements e =
       let none = sym passed in
       let zeros : List ℕ = replicate (length image) 0 in
       let fits : image_refusal (length zeros) layout ≡ 0 = rw (length-replicate {A = ℕ} (length image) 0) none in

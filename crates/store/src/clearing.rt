@@ -4,6 +4,7 @@ ghost use Rattle.store.specs.Fresh.{Clears};
 use layout::Layout;
 use refusal::Refusal;
 
+#[tactic(auto, using(crate::proofs::Cleared::fresh_refused))]
 pub fn fresh(image: &mut [u32], layout: Layout) -> Result<(), Refusal>
     ensures { Clears image.old layout result image.new }
 {

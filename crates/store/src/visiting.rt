@@ -47,6 +47,7 @@ pub fn visit(image: &mut [u32], layout: Layout, block: u32) -> Result<Verdict, R
 }
 
 // The verdict of a visit, for a caller who knows that it is accepted; where it is not, clean, and nothing is altered.
+#[tactic(auto, using(crate::proofs::Calls::accepts))]
 pub fn visit_accepted(image: &mut [u32], layout: Layout, block: u32) -> Verdict
     ensures { VisitsAccepted image.old layout block result image.new }
 {

@@ -1,7 +1,16 @@
 // A text on a page.
+ghost use Rattle.std.specs.Prelude.{◌≡◌, length};
 ghost use Rattle.text.specs.Puts.{PutsText, OnPage};
 
 use super::Page;
+
+// Copies a text over as many bytes. By itself, so that a byte which is left is seen where it is copied.
+fn paste(text: &[u8], room: &mut [u8])
+    requires { length room.old ≡ length text.now }
+    ensures { room.new ≡ text.now }
+{
+    room.copy_from_slice(text);
+}
 
 impl<'a> Page<'a> {
     #[tactic(auto, using(crate::proofs::Pages::leaves, crate::proofs::Pages::copies))]
@@ -13,7 +22,7 @@ impl<'a> Page<'a> {
             return;
         }
         let end = self.next + text.len();
-        self.bytes[self.next..end].copy_from_slice(text);
+        paste(text, &mut self.bytes[self.next..end]);
         self.next = end;
     }
 }

@@ -11,8 +11,8 @@ loop-k-preserved c =
     let k = c.loop-k.k in
     let bytes = c.args.bytes.now in
     let lt : k < length c.loop-k.image = omega arith in
-    below_more _ _ (λ j h. let ne : j ≢ k = omega arith in rw get_or-set_other (c.loop-k.invariant j h))
-    (rw get_or-set_same (let read = word_after bytes 9 _ k _ (omega (arith, length-take {A = ℕ}, length-drop {A = ℕ})) c.as_chunks.ensures.front in cc))
+    let read = word_after bytes 9 _ k _ (omega (arith, length-take {A = ℕ}, length-drop {A = ℕ})) c.as_chunks.ensures.front in
+    below_more _ _ (λ j h. let ne : j ≢ k = omega arith in rw get_or-set_other (c.loop-k.invariant j h)) (rw get_or-set_same (grind (arith, read)))
 
 pub returns : goal.returns
 unfolding words_in

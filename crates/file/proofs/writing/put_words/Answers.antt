@@ -1,5 +1,5 @@
 -- One word more is put. Assumes nothing.
-use Rattle.std.proofs.Common.{arith, ◌∙◌}
+use Rattle.std.proofs.Common.{arith}
 use mathlib.Core.Path.{refl}
 use Rattle.file.specs.Bytes.{bytes_of}
 use Rattle.file.proofs.Put.{word_put}
@@ -11,5 +11,4 @@ loop-k-init c = refl
 
 pub loop-k-preserved : goal.loop-k-preserved
 loop-k-preserved c =
-    let put = c.copy_from_slice.ensures.after ∙ c.to_be_bytes.ensures in
-    rw c.loop-k.invariant (word_put _ _ _ _ _ (omega arith) (omega (arith, c.type_inv.image c.loop-k.k)) put (omega arith))
+    rw c.loop-k.invariant (word_put _ _ _ _ _ (omega arith) (omega (arith, c.type_inv.image c.loop-k.k)) (grind arith) (omega arith))

@@ -15,14 +15,18 @@ returns-in_err-try_from c =
     rw (passed_on c.from_residual.ensures.1, e.0) (grind (arith, common_steps))
 
 pub returns-then-not-contains : goal.returns-then-not-contains
-returns-then-not-contains c = rw (past_shape c.args.self _ c.in_ok-try_from.ensures) (grind (arith, common_steps))
+returns-then-not-contains c =
+    let passed = past_shape c.args.self c.in_ok-try_from.field-0 (grind (arith, c.in_ok-try_from.ensures)) in
+    rw passed (grind (arith, common_steps))
 
 pub returns-then-not-contains-2 : goal.returns-then-not-contains-2
 returns-then-not-contains-2 c =
     let some : c.args.self.s ≡ 0 → ⊥ = grind (arith, common_steps) in
-    rw (past_shape c.args.self _ c.in_ok-try_from.ensures, no_blocks c.args.self.s c.args.self.g some, ← c.blocks-2.ensures) (grind (arith, common_steps))
+    let passed = past_shape c.args.self c.in_ok-try_from.field-0 (grind (arith, c.in_ok-try_from.ensures)) in
+    rw (passed, no_blocks c.args.self.s c.args.self.g some, ← c.blocks-2.ensures) (grind (arith, common_steps))
 
 pub returns : goal.returns
 returns c =
     let some : c.args.self.s ≡ 0 → ⊥ = grind (arith, common_steps) in
-    rw (past_shape c.args.self _ c.in_ok-try_from.ensures, no_blocks c.args.self.s c.args.self.g some, ← c.blocks-2.ensures) (grind (arith, common_steps))
+    let passed = past_shape c.args.self c.in_ok-try_from.field-0 (grind (arith, c.in_ok-try_from.ensures)) in
+    rw (passed, no_blocks c.args.self.s c.args.self.g some, ← c.blocks-2.ensures) (grind (arith, common_steps))

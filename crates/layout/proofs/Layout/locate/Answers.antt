@@ -52,7 +52,7 @@ pub overflow_add-result : goal.overflow_add-result
 overflow_add-result c =
     let within : c.if-s-eq1.within ≡ c.args.block % c.args.self.s =
     elim c.if-s-eq1.branch [ then-s-eq1 w ↦ w.within-is ∙ alone _ _ w.if-s-eq1.true | else-s-eq1 w ↦ w.within-is ] in
-    omega (
+    grind (
       arith,
       few_words _ _ c.args.block c.if-s-eq1.within c.shape_of-shape.result (sym c.in_ok-check_image.ensures) (omega arith) c.rows-height.ensures,
       mod-le c.args.block c.args.self.s,
@@ -62,9 +62,10 @@ pub returns : goal.returns
 returns c =
     let within : c.if-s-eq1.within ≡ c.args.block % c.args.self.s =
     elim c.if-s-eq1.branch [ then-s-eq1 w ↦ w.within-is ∙ alone _ _ w.if-s-eq1.true | else-s-eq1 w ↦ w.within-is ] in
+    let first = first_row (rows c.shape_of-shape.result) c.args.self.s c.args.block in
     locates_ok _ _ _ (record {
       passed = block_accepted _ _ _ (sym c.in_ok-check_image.ensures) (omega arith);
       same_shape = c.shape_of-shape.ensures;
-      first = rw (within, c.rows-height.ensures, c.shape_of-shape.ensures) (first_row _ _ _);
+      first = rw (sym c.shape_of-shape.ensures) (grind (arith, within, c.rows-height.ensures, first));
       step = refl;
     })

@@ -1,6 +1,7 @@
 -- `turn` meets its contract. Assumes nothing.
 use mathlib.Core.Path.{◌≡◌, sym}
 use borrow.Author.Rules.{rules}
+use native.Mathlib.Omega.{arith}
 use lib.ListN.{length}
 use Rattle.rota.specs.Line.{places}
 use Rattle.rota.proofs.Entries.{next_inside, line_tidy, turn_broken, turn_on}
@@ -20,4 +21,4 @@ take_first-ask-requires c =
 pub returns : goal.returns
 returns c =
     let done = c.take_first-ask.ensures in
-    turn_on _ _ (sym c.if-not-unbroken.ensures) done.0 c.onward-self.ensures done.1
+    turn_on _ _ (sym c.if-not-unbroken.ensures) (grind arith) done.0 c.onward-self.ensures done.1
