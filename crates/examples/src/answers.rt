@@ -17,7 +17,7 @@ const PLACE_AT: usize = REPORT_AT + REPORT_WORDS;
 
 pub(crate) const ANSWER_WORDS: usize = PLACE_AT + 1;
 
-// The answer of a call that has a number and nothing else, as format and write.
+// The answer of a call that has a number and nothing else, as format.
 pub(crate) fn of_done<T>(answer: &Result<T, Refusal>) -> [u32; ANSWER_WORDS] {
     let mut words = [0u32; ANSWER_WORDS];
     words[0] = words::number(answer);
@@ -31,6 +31,11 @@ fn numbered<T>(answer: &Result<T, Refusal>, at: usize, words: &[u32]) -> [u32; A
     let mut all = of_done(answer);
     all[at..at + words.len()].copy_from_slice(words);
     all
+}
+
+// What write answers.
+pub(crate) fn of_stored(answer: Result<(), Refusal>) -> [u32; ANSWER_WORDS] {
+    numbered(&answer, VERDICT_AT, &words::stored_words(answer))
 }
 
 // What read and visit answer.

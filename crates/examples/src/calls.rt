@@ -1,5 +1,7 @@
 // The calls, answered by words, on an image and on what is lent beside it: a list or buffer, a file, or a record.
-use crate::answers::{ANSWER_WORDS, of_count, of_done, of_header, of_report, of_verdict};
+use crate::answers::{
+    ANSWER_WORDS, of_count, of_done, of_header, of_report, of_stored, of_verdict,
+};
 use crate::filed;
 use crate::heads::{Call, Head};
 use layout::Layout;
@@ -61,7 +63,7 @@ impl Lent<'_> {
         let layout = head.layout;
         let block = head.block;
         let answer = match head.call {
-            Call::Write => of_done(&store::write(image, layout, block, list)),
+            Call::Write => of_stored(store::write(image, layout, block, list)),
             Call::Read => of_verdict(store::read(image, layout, block, list)),
             Call::Visit => of_verdict(store::visit(image, layout, block)),
             Call::Format => run_patrolled(image, self.record, |store| store.format(layout))?,

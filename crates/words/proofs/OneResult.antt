@@ -9,7 +9,8 @@ use Rattle.block.specs.declared.Verdict.{Verdict}
 use Rattle.layout.specs.declared.Layout.{Layout}
 use Rattle.patrol.specs.declared.Record.{Record}
 use Rattle.patrol.specs.declared.Report.{Report}
-use Rattle.words.specs.Answers.{NumbersAnswer, SpellsAnswer, SpellsCount, SpellsReport}
+use Rattle.store.specs.Answer.{Stored}
+use Rattle.words.specs.Answers.{NumbersAnswer, SpellsAnswer, SpellsStored, SpellsCount, SpellsReport}
 use Rattle.words.specs.Files.{SpellsHeader}
 use Rattle.words.specs.Records.{HoldsRecord, SpellsRecord}
 
@@ -21,6 +22,9 @@ one_number answer m n e f = same e f
 
 pub one_answer_words : (answer : Result Verdict Refusal) (a b : List ℕ) → SpellsAnswer answer a → SpellsAnswer answer b → a ≡ b
 one_answer_words answer a b e f = same e f
+
+pub one_stored_words : (answer : Stored) (a b : List ℕ) → SpellsStored answer a → SpellsStored answer b → a ≡ b
+one_stored_words answer a b e f = same e f
 
 pub one_count_words : (answer : Result ℕ Refusal) (a b : List ℕ) → SpellsCount answer a → SpellsCount answer b → a ≡ b
 one_count_words answer a b e f = same e f

@@ -4,7 +4,7 @@ use Rattle.refusal.specs.declared.Refusal.{Refusal}
 use Rattle.refusal.specs.Refusal.{answer_number}
 use Rattle.block.specs.declared.Verdict.{Verdict}
 use Rattle.block.specs.Verdict.{no_verdict}
-use Rattle.store.specs.Answer.{answer_words}
+use Rattle.store.specs.Answer.{Stored, answer_words, stored_words}
 use Rattle.patrol.specs.declared.Report.{Report}
 use Rattle.patrol.specs.Numbers.{no_visit, report_words}
 
@@ -27,9 +27,12 @@ count_given (Err refusal) = 0
 abbrev pub NumbersAnswer : {A : Type 0} → Result A Refusal → ℕ → Type 0
 NumbersAnswer answer number = number ≡ answer_number answer
 
--- the promises of answer_words, count_words and report_words
+-- the promises of answer_words, stored_words, count_words and report_words
 abbrev pub SpellsAnswer : Result Verdict Refusal → List ℕ → Type 0
 SpellsAnswer answer words = words ≡ answer_words answer
+
+abbrev pub SpellsStored : Stored → List ℕ → Type 0
+SpellsStored answer words = words ≡ stored_words answer
 
 abbrev pub SpellsCount : Result ℕ Refusal → List ℕ → Type 0
 SpellsCount answer words = words ≡ count_given answer ∷ []

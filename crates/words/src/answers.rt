@@ -2,7 +2,7 @@
 ghost use Rattle.std.specs.Prelude.{◌≡◌};
 ghost use Rattle.block.specs.Verdict.{verdict_words};
 ghost use Rattle.patrol.specs.Numbers.{visit_words};
-ghost use Rattle.words.specs.Answers.{NumbersAnswer, SpellsAnswer, SpellsCount, SpellsReport};
+ghost use Rattle.words.specs.Answers.{NumbersAnswer, SpellsAnswer, SpellsStored, SpellsCount, SpellsReport};
 
 use super::{REPORT_WORDS, VERDICT_WORDS, VISIT_WORDS};
 use block::Verdict;
@@ -35,6 +35,15 @@ pub fn answer_words(answer: Result<Verdict, Refusal>) -> [u32; VERDICT_WORDS]
     ensures { SpellsAnswer answer result }
 {
     answer.map_or([0; VERDICT_WORDS], verdict_words)
+}
+
+// The words of the verdict that a write has: zeros, as it has none, accepted or refused.
+pub fn stored_words(answer: Result<(), Refusal>) -> [u32; VERDICT_WORDS]
+    ensures { SpellsStored answer result }
+{
+    match answer {
+        Ok(()) | Err(_) => [0; VERDICT_WORDS],
+    }
 }
 
 // The one number that a call answers besides, an ask its place and a writer its bytes; 0 where the call is refused.

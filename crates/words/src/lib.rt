@@ -6,7 +6,7 @@ mod answers;
 mod files;
 mod records;
 
-pub use answers::{answer_words, count_words, number, report_words};
+pub use answers::{answer_words, count_words, number, report_words, stored_words};
 pub use files::header_words;
 pub use records::{record_of, record_words};
 
